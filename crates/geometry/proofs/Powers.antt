@@ -11,6 +11,7 @@ use Rattle.std.proofs.shelf.Tests.{eq-eqb, ne-eqb, or-left, or-right, or-from, 
 use Rattle.geometry.specs.Line.{power-to}
 
 pub power-found : (most k n : ℕ) → k ≤ most → n ≡ 2 ^ k → power-to most n ≡ true
+unfolding power-to
 power-found zero k n h e = let z : k ≡ 0 = omega arith in eq-eqb n 1 (e ∙ ap (λ j. 2 ^ j) z)
 power-found (suc m) k n h e =
     ⊎-elim
@@ -19,6 +20,7 @@ power-found (suc m) k n h e =
     (cases-eq k (suc m))
 
 pub power-none : (most n : ℕ) → ((j : ℕ) → j < most + 1 → n ≡ 2 ^ j → ⊥) → power-to most n ≡ false
+unfolding power-to
 power-none zero n no-power = ne-eqb n 1 (no-power 0 (omega arith))
 power-none (suc m) n no-power =
     or-from (eqb n (2 ^ suc m)) (power-to m n) (ne-eqb n (2 ^ suc m) (no-power (suc m) (omega arith)))

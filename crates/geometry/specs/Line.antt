@@ -14,7 +14,7 @@ use Rattle.geometry.specs.declared.line.Line.{Line}
 use Rattle.geometry.specs.declared.geometry.Geometry.{Geometry}
 
 -- one of the powers of two 1, 2, 4, .., 2 ^ k
-abbrev pub power-to : ℕ → ℕ → Bool
+unfoldable pub power-to : ℕ → ℕ → Bool
 power-to zero n = eqb n 1
 power-to (suc k) n = eqb n (2 ^ suc k) || power-to k n
 

@@ -4,3 +4,4 @@ pub mod Nesting
 pub mod Stack
 pub mod Plru
 pub mod Three
+pub mod Standard

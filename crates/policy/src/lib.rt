@@ -3,5 +3,6 @@ pub mod fifo;
 pub mod lru;
 pub mod plru;
 pub mod stack;
+pub mod standard;
 pub mod three;
 pub mod traits;
