@@ -1,31 +1,29 @@
 -- The steps of a search through a list of words.
 use mathlib.Core.Path.{_≡_, refl, sym, ap, _∙_}
-use mathlib.Core.Bool.{Bool, true, false, cond, _||_}
+use mathlib.Core.Bool.{true, false}
 use mathlib.Core.List.{List, [], _∷_}
 use Prim.Native.Nat.{ℕ, suc, _+_, _<_, _≤_}
 use native.Mathlib.Omega.{arith}
-use lib.Dec.{eqb}
 use lib.ListN.{length, getD, drop}
 use Rattle.std.proofs.shelf.Lists.{drop-more, drop-all}
 use Rattle.std.proofs.shelf.Tests.{eq-eqb, ne-eqb}
-use Rattle.std.specs.declared.option.Option.{Option}
-use Rattle.std.specs.declared.option.Option.the-variants.{Some, None}
 use Rattle.policy.specs.Search.{member, place}
+use Rattle.policy.proofs.Search.{member-here, member-later, place-here, place-later}
 
--- what a search finds among words that come after i others
-abbrev pub found-after : ℕ → ℕ → List ℕ → Option ℕ
-found-after i t ws = cond (member t ws) (Some (i + place t ws)) None
+-- the word at i is the tag, is not, or there is none
+module _ (t i : ℕ) (xs : List ℕ) where
+  pub found-here : i < length xs → getD xs i 0 ≡ t → (member t (drop i xs) ≡ true) × (i + place t (drop i xs) ≡ i + 1)
+  found-here h e =
+      let same = eq-eqb t (getD xs i 0) (sym e) in (
+        ap (member t) (drop-more xs i 0 h) ∙ member-here t (getD xs i 0) (drop (i + 1) xs) same,
+        ap (λ n. i + n) (ap (place t) (drop-more xs i 0 h) ∙ place-here t (getD xs i 0) (drop (i + 1) xs) same),
+      )
 
-module _ (t x i : ℕ) (ws : List ℕ) where
-  found-cons : (b : Bool) → eqb t x ≡ b → found-after i t (x ∷ ws) ≡ cond b (Some (i + 1)) (found-after (i + 1) t ws)
-  found-cons true e = rw e refl
-  found-cons false e = rw e (ap (λ n. cond (member t ws) (Some n) None) (omega arith))
+  pub found-later : i < length xs → (getD xs i 0 ≡ t → ⊥) → (member t (drop i xs) ≡ member t (drop (i + 1) xs)) × (i + place t (drop i xs) ≡ i + 1 + place t (drop (i + 1) xs))
+  found-later h n =
+      let other = ne-eqb t (getD xs i 0) (λ e. n (sym e)) in
+      let places : place t (drop i xs) ≡ suc (place t (drop (i + 1) xs)) = ap (place t) (drop-more xs i 0 h) ∙ place-later t (getD xs i 0) (drop (i + 1) xs) other in
+      (ap (member t) (drop-more xs i 0 h) ∙ member-later t (getD xs i 0) (drop (i + 1) xs) other, omega arith)
 
-pub found-here : (t i : ℕ) (xs : List ℕ) → i < length xs → getD xs i 0 ≡ t → found-after i t (drop i xs) ≡ Some (i + 1)
-found-here t i xs h e = ap (found-after i t) (drop-more xs i 0 h) ∙ found-cons t (getD xs i 0) i (drop (i + 1) xs) true (eq-eqb _ _ (sym e))
-
-pub found-next : (t i : ℕ) (xs : List ℕ) → i < length xs → (getD xs i 0 ≡ t → ⊥) → found-after i t (drop i xs) ≡ found-after (i + 1) t (drop (i + 1) xs)
-found-next t i xs h n = ap (found-after i t) (drop-more xs i 0 h) ∙ found-cons t (getD xs i 0) i (drop (i + 1) xs) false (ne-eqb _ _ (λ e. n (sym e)))
-
-pub found-none : (t i : ℕ) (xs : List ℕ) → length xs ≤ i → found-after i t (drop i xs) ≡ None
-found-none t i xs h = ap (found-after i t) (drop-all i xs h)
+  pub found-nowhere : length xs ≤ i → (member t (drop i xs) ≡ false) × (i + place t (drop i xs) ≡ i)
+  found-nowhere h = (ap (member t) (drop-all i xs h), ap (λ n. i + n) (ap (place t) (drop-all i xs h)) ∙ omega arith)

@@ -1,6 +1,6 @@
 -- Facts about a search through a list of tags, and one about all elements of a list.
 use mathlib.Core.Path.{_≡_, refl, sym, ap, _∙_}
-use mathlib.Core.Bool.{Bool, true, false, cond, _||_}
+use mathlib.Core.Bool.{Bool, true, false}
 use mathlib.Core.List.{List, [], _∷_}
 use mathlib.Core.Logic.{⊎-elim}
 use Prim.Native.Nat.{ℕ, zero, suc, _<_, _≤_}
@@ -9,26 +9,7 @@ use lib.Dec.{eqb}
 use lib.ListN.{length, take, replicate}
 use Rattle.std.specs.shelf.Lists.{All}
 use Rattle.std.proofs.shelf.Tests.{both-ways, cases-bool, or-parts, true≢false, eq-eqb, ne-eqb}
-use Rattle.std.specs.declared.option.Option.{Option}
-use Rattle.std.specs.declared.option.Option.the-variants.{Some, None}
-use Rattle.policy.specs.Search.{member, place, found, Distinct}
-
--- a search that finds the tag, and one that does not
-module _ (t p : ℕ) (xs : List ℕ) where
-  found-cases : (b : Bool) → member t xs ≡ b → cond b (Some (place t xs)) None ≡ Some p → (member t xs ≡ true) × (p ≡ place t xs)
-  found-cases true m e = (m, cc)
-  found-cases false m e = let z : _≡_ {A = ℕ} 0 1 = cc in absurd (omega arith)
-
-  pub found-some : found t xs ≡ Some p → (member t xs ≡ true) × (p ≡ place t xs)
-  found-some e = found-cases (member t xs) refl e
-
-module _ (t : ℕ) (xs : List ℕ) where
-  none-cases : (b : Bool) → member t xs ≡ b → cond b (Some (place t xs)) None ≡ None → member t xs ≡ false
-  none-cases true m e = let z : _≡_ {A = ℕ} 0 1 = cc in absurd (omega arith)
-  none-cases false m e = m
-
-  pub found-nowhere : found t xs ≡ None → member t xs ≡ false
-  found-nowhere e = none-cases (member t xs) refl e
+use Rattle.policy.specs.Search.{member, place, Distinct}
 
 -- what a search is compared with, tag by tag
 module _ (t x : ℕ) (xs : List ℕ) where

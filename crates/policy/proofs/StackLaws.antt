@@ -16,7 +16,7 @@ use Rattle.std.proofs.shelf.Tests.{and-parts, leb-true, cases-lt}
 use Rattle.policy.specs.Search.{member, place, Distinct}
 use Rattle.policy.specs.Policy.{Meaning, Laws, Touched}
 use Rattle.policy.specs.Nesting.{Nest, Nests, Nested, First}
-use Rattle.policy.specs.Stack.{layout, residents-of, ways-of, relaid, touch-by, truncate-of, Stacked, one-to-sixteen, stack-meaning, OnResidents}
+use Rattle.policy.specs.Stack.{layout, residents-of, ways-of, relaid, touch-by, truncate-of, touched-row, Stacked, one-to-sixteen, stack-meaning, OnLayout}
 use Rattle.policy.proofs.Search.{all-replicate, distinct-take, member-take-absent, member-take-within, member-take-beyond}
 use Rattle.policy.proofs.ListPolicy.{ListPolicy, Keeps, Narrows}
 use Rattle.policy.proofs.StackRow.{residents-part}
@@ -54,27 +54,10 @@ module _ (P : ListPolicy) (K : Keeps P) where
   pub touch-residents : (a t : ℕ) (rs : List ℕ) → length rs ≤ a → a < 2 ^ 32 → residents-of (touch-by P (layout a rs) t .row) ≡ P a rs t
   touch-residents a t rs l b = ap residents-of (touch-laid a t rs l b) ∙ residents-laid a (P a rs t)
 
-  pub on-residents : (r : List ℕ) (t : ℕ) → OnResidents P r t (touch-by P r t .row) (touch-by P r t .hit) (touch-by P r t .comparisons)
-  on-residents r t = record {
-    hits = λ a rs l e. ap (λ r. touch-by P r t .hit) e ∙ ap (member t) (residents-laid a rs);
-    compares = λ a rs l e. ap (λ r. touch-by P r t .comparisons) e ∙ ap (place t) (residents-laid a rs);
-    lays = λ a rs l _ b e. ap (λ r. touch-by P r t .row) e ∙ touch-laid a t rs l b;
-  }
-
--- what the contract of a touch asks, once the answers and the row are known
-pub as-touched : (P : ListPolicy) → Keeps P → (r : List ℕ) (t : ℕ) (exit : List ℕ) (b : Bool) (n : ℕ)
-    → b ≡ touch-by P r t .hit → n ≡ touch-by P r t .comparisons → exit ≡ touch-by P r t .row
-    → record { hit : b ≡ touch-by P r t .hit; comparisons : n ≡ touch-by P r t .comparisons; row : exit ≡ touch-by P r t .row; list : OnResidents P r t exit b n }
-as-touched P K r t exit b n h c x = record {
-  hit = h;
-  comparisons = c;
-  row = x;
-  list = record {
-    hits = λ a rs l e. h ∙ on-residents P K r t .hits a rs l e;
-    compares = λ a rs l e. c ∙ on-residents P K r t .compares a rs l e;
-    lays = λ a rs l p b e. x ∙ on-residents P K r t .lays a rs l p b e;
-  };
-}
+  pub on-layout : OnLayout P
+  on-layout a rs t l b =
+      let answer : List ℕ → List ℕ → Touched = λ xs row. record { hit = member t xs; comparisons = place t xs; row = row } in
+      ap (λ xs. answer xs (touched-row P (layout a rs) t)) (residents-laid a rs) ∙ ap (answer rs) (touch-laid a t rs l b)
 
 -- the rows that FIFO and LRU made
 module _ (a : ℕ) (takes : one-to-sixteen a ≡ true) (r : List ℕ) (s : Stacked a r) where
@@ -98,8 +81,8 @@ module _ (P : ListPolicy) (K : Keeps P) (a : ℕ) (takes : one-to-sixteen a ≡ 
   residents-after : residents-of (touch-by P r t .row) ≡ P a (s .tags) t
   residents-after = ap residents-of after-touch ∙ residents-laid a (P a (s .tags) t)
 
-  touched-row : t < 2 ^ 32 → Stacked a (touch-by P r t .row)
-  touched-row b = record {
+  stacked-after : t < 2 ^ 32 → Stacked a (touch-by P r t .row)
+  stacked-after b = record {
     tags = P a (s .tags) t;
     few = K .few a t (s .tags) (s .few);
     distinct = K .distinct a t (s .tags) (s .distinct);
@@ -134,7 +117,7 @@ stack-laws letter P K low high = record {
   width = λ a r k s. row-width a k r s;
   few = λ a r k s. subst (λ xs. length xs ≤ a) (sym (tags-are a k r s)) (s .few);
   distinct = λ a r k s. subst Distinct (sym (tags-are a k r s)) (s .distinct);
-  touched = λ a r t k s b. touched-row P K a k r s t b;
+  touched = λ a r t k s b. stacked-after P K a k r s t b;
   hits = λ a r t k s b. hit-is P K a k r s t ∙ sym (ap (member t) (tags-are a k r s));
   compares = λ a r t k s b. compared P K a k r s t ∙ sym (ap (place t) (tags-are a k r s));
   kept = λ a r t k s b. ap (member t) (residents-after P K a k r s t) ∙ K .kept a t (s .tags) (ways-bounds a k .0);

@@ -9,8 +9,8 @@ use native.Mathlib.Omega.{arith}
 use lib.ListN.{length, getD, drop, take, set}
 use Rattle.std.proofs.shelf.Lists.{length-take, take-take, take-all, drop-all, take-append-drop, length-take-le}
 use Rattle.std.proofs.shelf.Tests.{cases-lt, cond-false}
-use Rattle.policy.specs.Search.{member, place, found}
-use Rattle.policy.specs.Stack.{residents-of, ways-of, relaid, fifo, touch-by}
+use Rattle.policy.specs.Search.{member}
+use Rattle.policy.specs.Stack.{residents-of, ways-of, relaid, fifo, touched-row}
 
 -- as many words as were taken are the words that were taken
 pub take-taken : (h : ℕ) (ws : List ℕ) → take (length (take h ws)) ws ≡ take h ws
@@ -31,17 +31,22 @@ pub count-room : (r : List ℕ) → 0 < length (residents-of r) → length (resi
 count-room [] l = l
 count-room (x ∷ ws) l = let n = length-take x ws in omega arith
 
-pub count-head : (r : List ℕ) → length (residents-of r) ≤ getD r 0 0
-count-head [] = omega arith
-count-head (x ∷ ws) = let n = length-take x ws in omega arith
+pub count-within : (r : List ℕ) → 0 < length r → length (residents-of r) < length r
+count-within [] l = l
+count-within (x ∷ ws) l = let n = length-take x ws in omega arith
+
+-- a row without words has no residents, and stays so
+pub residents-none : (r : List ℕ) → length r ≡ 0 → r ≡ residents-of r
+residents-none [] e = refl
+residents-none (x ∷ ws) e = absurd (omega arith)
+
+pub touched-none : (P : ℕ → List ℕ → ℕ → List ℕ) (r : List ℕ) (t : ℕ) → length r ≡ 0 → r ≡ touched-row P r t
+touched-none P [] t e = refl
+touched-none P (x ∷ ws) t e = absurd (omega arith)
 
 pub residents-part : (r : List ℕ) (n : ℕ) → n ≡ length (residents-of r) → take n (drop 1 r) ≡ residents-of r
 residents-part [] n e = ap (λ k. take {A = ℕ} k []) e
 residents-part (x ∷ ws) n e = ap (λ k. take k ws) e ∙ take-taken x ws
-
-pub found-empty : (t : ℕ) (xs : List ℕ) → length xs ≡ 0 → found t [] ≡ found t xs
-found-empty t [] e = refl
-found-empty t (x ∷ xs) e = absurd (omega arith)
 
 -- a tag in front of the residents, as far as there are ways
 front-words : (w h t last : ℕ) (ws : List ℕ) → last ≡ min w (length (take h ws) + 1) → take w (t ∷ take h ws) ≡ take last (t ∷ ws)
@@ -53,7 +58,7 @@ front-words w h t last ws e =
     (cases-lt w (suc n))
 
 pub admitted : (r : List ℕ) (t last count : ℕ) → 0 < length r → count ≡ length (residents-of r) → member t (residents-of r) ≡ false → last ≡ min (ways-of (drop 1 r)) (count + 1)
-    → last ∷ (take last (t ∷ drop 1 r) ++ drop last (drop 1 r)) ≡ touch-by fifo r t .row
+    → last ∷ (take last (t ∷ drop 1 r) ++ drop last (drop 1 r)) ≡ touched-row fifo r t
 admitted [] t last count l e n m = absurd (not-suc-le-zero l)
 admitted (x ∷ ws) t last count l e n m =
     let m′ : last ≡ min (ways-of ws) (length (take x ws) + 1) = omega arith in

@@ -47,6 +47,11 @@ abbrev pub away : List ℕ → ℕ → ℕ → List ℕ
 away flags zero n = flags
 away flags (suc d) n = away (set flags (n / 2 - 1) (1 - n % 2)) d (n / 2)
 
+-- a leaf if there is one, and else another
+abbrev pub leaf-or : Option ℕ → ℕ → ℕ
+leaf-or None v = v
+leaf-or (Some i) v = i
+
 -- the leaf that a touch ends at: the one that holds the tag, or else the victim
 abbrev pub leaf-touched : Tree → ℕ → ℕ
 leaf-touched T t = cond (member t (tags-of (T .leaves))) (leaf-of t (T .leaves)) (victim T)

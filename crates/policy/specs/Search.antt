@@ -4,8 +4,6 @@ use mathlib.Core.Bool.{Bool, true, false, cond, _||_}
 use mathlib.Core.List.{List, [], _∷_}
 use Prim.Native.Nat.{ℕ, suc}
 use lib.Dec.{eqb}
-use Rattle.std.specs.declared.option.Option.{Option}
-use Rattle.std.specs.declared.option.Option.the-variants.{Some, None}
 
 -- whether a tag is resident
 abbrev pub member : ℕ → List ℕ → Bool
@@ -16,10 +14,6 @@ member t (x ∷ xs) = eqb t x || member t xs
 abbrev pub place : ℕ → List ℕ → ℕ
 place t [] = 0
 place t (x ∷ xs) = cond (eqb t x) 1 (suc (place t xs))
-
--- where a search finds a tag, from 1
-abbrev pub found : ℕ → List ℕ → Option ℕ
-found t xs = cond (member t xs) (Some (place t xs)) None
 
 -- no tag stands twice
 abbrev pub Distinct : List ℕ → Type 0

@@ -40,13 +40,17 @@ residents-of (h ∷ ws) = take h ws
 abbrev pub relaid : List ℕ → List ℕ → List ℕ
 relaid ws rs = length rs ∷ (rs ++ drop (length rs) ws)
 
--- a touch, by what the policy does to the residents; a row without words stays as it is
+-- the row after a touch, by what the policy does to the residents; a row without words stays as it is
+abbrev pub touched-row : (ℕ → List ℕ → ℕ → List ℕ) → List ℕ → ℕ → List ℕ
+touched-row policy [] t = []
+touched-row policy (h ∷ ws) t = relaid ws (policy (ways-of ws) (take h ws) t)
+
+-- a touch of any row
 abbrev pub touch-by : (ℕ → List ℕ → ℕ → List ℕ) → List ℕ → ℕ → Touched
-touch-by policy [] t = record { hit = false; comparisons = 0; row = [] }
-touch-by policy (h ∷ ws) t = record {
-  hit = member t (take h ws);
-  comparisons = place t (take h ws);
-  row = relaid ws (policy (ways-of ws) (take h ws) t);
+touch-by policy r t = record {
+  hit = member t (residents-of r);
+  comparisons = place t (residents-of r);
+  row = touched-row policy r t;
 }
 
 -- a row of m words with the first residents of a wide one
@@ -93,7 +97,6 @@ abbrev pub lru-nest : Nest
 lru-nest = record { truncate = truncate-of; keeps = true }
 
 -- On a row that is laid out, a touch is what the policy does to the residents.
-pub record OnResidents (policy : ℕ → List ℕ → ℕ → List ℕ) (entry : List ℕ) (t : ℕ) (exit : List ℕ) (hit : Bool) (comparisons : ℕ) : Type 0 where
-  pub hits : (a : ℕ) (rs : List ℕ) → length rs ≤ a → entry ≡ layout a rs → hit ≡ member t rs
-  pub compares : (a : ℕ) (rs : List ℕ) → length rs ≤ a → entry ≡ layout a rs → comparisons ≡ place t rs
-  pub lays : (a : ℕ) (rs : List ℕ) → length rs ≤ a → 1 ≤ a → a < 2 ^ 32 → entry ≡ layout a rs → exit ≡ layout a (policy a rs t)
+abbrev pub OnLayout : (ℕ → List ℕ → ℕ → List ℕ) → Type 0
+OnLayout policy = (a : ℕ) (rs : List ℕ) (t : ℕ) → length rs ≤ a → a < 2 ^ 32
+    → touch-by policy (layout a rs) t ≡ record { hit = member t rs; comparisons = place t rs; row = layout a (policy a rs t) }

@@ -1,9 +1,10 @@
 // First in, first out.
-ghost use mathlib.Core.Path.{_≡_};
-ghost use Rattle.policy.specs.Stack.{OnResidents, fifo, fifo-meaning, fifo-nest};
+ghost use Rattle.policy.specs.Stack.{fifo-meaning, fifo-nest};
 use crate::stack::admit;
 use crate::stack::copy_first;
-use crate::stack::look;
+use crate::stack::find;
+use crate::stack::keep;
+use crate::stack::residents;
 use crate::traits::Nesting;
 use crate::traits::Policy;
 
@@ -26,23 +27,14 @@ pub impl Policy for Fifo as FifoPolicy {
         row.fill(0);
     }
 
-    fn touch(&self, row: &mut [u32], tag: u32) -> (bool, usize)
-        ensures hit { λ r. ⌜ r .0 ≡ fifo-meaning .touch (now (row .entry)) tag .hit ⌝ }
-        ensures comparisons { λ r. ⌜ r .1 ≡ fifo-meaning .touch (now (row .entry)) tag .comparisons ⌝ }
-        ensures row { λ r. ⌜ now (row .exit) ≡ fifo-meaning .touch (now (row .entry)) tag .row ⌝ }
-        ensures list { λ r. ⌜ OnResidents fifo (now (row .entry)) tag (now (row .exit)) (r .0) (r .1) ⌝ }
-    {
-        let (found, count) = look(row, tag);
-        match found {
-            Some(place) => {
-                row[0] = count as u32;
-                (true, place)
-            }
-            None => {
-                admit(row, count, tag);
-                (false, count)
-            }
+    fn touch(&self, row: &mut [u32], tag: u32) -> (bool, usize) {
+        let (hit, comparisons) = find(residents(row), tag);
+        if hit {
+            keep(row, tag);
+        } else {
+            admit(row, tag);
         }
+        (hit, comparisons)
     }
 }
 

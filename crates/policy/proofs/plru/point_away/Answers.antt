@@ -21,4 +21,4 @@ pub loop-again : need.loop-again
 loop-again c =
     let up = level-up (c .args .depth) (c .loop .counter) (c .loop .node) (c .loop-test .taken) (c .loop .inv .0) in
     let step = away-word-more (c .loop .head) (c .args .depth) (c .loop .counter) (c .loop .node) (c .loop-test .taken) in
-    (up, simp (c .write-bit-head .ensures) (sym step ∙ c .loop .inv .1))
+    (up, simp (c .write-bit-head .ensures, c .away-from .ensures) (sym step ∙ c .loop .inv .1))
