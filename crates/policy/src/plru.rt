@@ -138,6 +138,24 @@ fn point_away(head: u32, depth: u32, leaf: usize) -> u32
     head
 }
 
+// Touches the tree of a row: the leaf takes the tag, and the flags on its path point away.
+fn touch_tree(row: &mut [u32], tag: u32) -> (bool, usize)
+    ensures hit { λ r. ⌜ r .0 ≡ plru-meaning .touch (now (row .entry)) tag .hit ⌝ }
+    ensures comparisons { λ r. ⌜ r .1 ≡ plru-meaning .touch (now (row .entry)) tag .comparisons ⌝ }
+    ensures row { λ r. ⌜ now (row .exit) ≡ plru-meaning .touch (now (row .entry)) tag .row ⌝ }
+    ensures tree { λ r. ⌜ OnTree (now (row .entry)) tag (now (row .exit)) (r .0) (r .1) ⌝ }
+{
+    if row.len() < 2 {
+        return (false, 0);
+    }
+    let head = row[0];
+    let depth = depth_of(row.len() - 1);
+    let (leaf, hit, comparisons) = leaf_touched(head, &row[1..], tag);
+    row[0] = point_away(write_bit(head, FILLED + leaf as u32, 1), depth, leaf);
+    row[1 + leaf] = tag;
+    (hit, comparisons)
+}
+
 pub impl Policy for Plru as PlruPolicy {
     ghost meaning = { plru-meaning };
 
@@ -159,14 +177,6 @@ pub impl Policy for Plru as PlruPolicy {
         ensures row { λ r. ⌜ now (row .exit) ≡ plru-meaning .touch (now (row .entry)) tag .row ⌝ }
         ensures tree { λ r. ⌜ OnTree (now (row .entry)) tag (now (row .exit)) (r .0) (r .1) ⌝ }
     {
-        if row.len() < 2 {
-            return (false, 0);
-        }
-        let head = row[0];
-        let depth = depth_of(row.len() - 1);
-        let (leaf, hit, comparisons) = leaf_touched(head, &row[1..], tag);
-        row[0] = point_away(write_bit(head, FILLED + leaf as u32, 1), depth, leaf);
-        row[1 + leaf] = tag;
-        (hit, comparisons)
+        touch_tree(row, tag)
     }
 }

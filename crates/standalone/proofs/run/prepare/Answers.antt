@@ -4,11 +4,12 @@ use native.Mathlib.Omega.{arith}
 use mathlib.Core.List.{_∷_}
 use lib.Dec.{leb}
 use lib.ListN.{length}
+use Rattle.std.proofs.shelf.Results.{err-from-errBy}
 use Rattle.std.proofs.shelf.Tests.{le-leb}
 use Rattle.policy.specs.Three.{three}
-use Rattle.geometry.specs.Refusal.{ask}
+use Rattle.geometry.specs.Refusal.{ask, refusal-number}
 use Rattle.geometry.specs.Line.{line-questions}
-use Rattle.geometry.proofs.Asked.{after-none, passes}
+use Rattle.geometry.proofs.Asked.{after-none, after-some, passes}
 use Rattle.standalone.specs.Run.{need, access-questions}
 use Rattle.standalone.proofs.Questions.{all-allowed}
 use Rattle.standalone.proofs.Runs.{need-is}
@@ -33,3 +34,13 @@ returns g c =
       few = few;
       allowed = all-allowed xs accesses;
     }
+
+-- a line that is refused
+pub returns-in-Break-geometry : need·.returns-in-Break-geometry
+returns-in-Break-geometry g c =
+    let p = three (g .A·Policy .meaning) (g .B·Policy .meaning) (g .C·Policy .meaning) in
+    let out = err-from-errBy (c .from-residual .result) (c .from-residual .ensures .1) in
+    let xs = c .args .accesses .now in
+    let line = c .args .line .now in
+    rw (out .1, out .2)
+      (after-some (line-questions p line) (ask 11 (leb (need line) (c .args .words)) ∷ ask 14 (leb (length xs) 4294967295) ∷ access-questions xs) (refusal-number (c .in-Break-geometry .field-0 .0)) (c .in-Break-geometry .ensures tt .passes))

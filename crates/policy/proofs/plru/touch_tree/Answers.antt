@@ -9,7 +9,7 @@ use Rattle.policy.specs.Policy.{Touched}
 use Rattle.policy.specs.Search.{member, place}
 use Rattle.policy.specs.Plru.{away-word, depth-of, leaf-touched, tags-of, tree-of, with-bit}
 use Rattle.policy.proofs.PlruRow.{on-tree, touch-short, touch-writes}
-use Rattle.policy.proofs.plru.PlruPolicy.touch.Needs as need
+use Rattle.policy.proofs.plru.touch_tree.Needs as need
 
 pub returns-then-row-lt2 : need.returns-then-row-lt2
 returns-then-row-lt2 c =

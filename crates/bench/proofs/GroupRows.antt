@@ -1,0 +1,108 @@
+-- One line more in the sweep of a group.
+use mathlib.Core.Path.{_≡_, refl, sym, ap, _∙_, subst}
+use mathlib.Core.Bool.{Bool}
+use mathlib.Core.List.{List, [], _∷_, _++_}
+use Prim.Native.Nat.{ℕ, suc, _+_, _-_, _*_, _<_, _≤_, min}
+use native.Mathlib.Nat.{not-suc-le-zero}
+use native.Mathlib.Omega.{arith}
+use borrow.Rule.Slice.PartMut.{putMid}
+use lib.ListN.{length, getD, set, take, drop}
+use Rattle.std.proofs.shelf.Lists.{drop-all, append-nil, append-assoc, take-take, drop-append-le, take-append-le, length-take-le, length-drop}
+use Rattle.std.specs.declared.option.Option.{Option}
+use Rattle.std.specs.declared.option.Option.the-variants.{Some, None}
+use Rattle.standalone.specs.Rows.{row-at, with-row}
+use Rattle.standalone.proofs.Laid.{row-within}
+use Rattle.bench.specs.Rows.{Slot, Lead, Stepped, Stepper}
+use Rattle.bench.specs.Words.{slot-of, words-of, line-words, lines-words, slots-at, with-slots}
+use Rattle.bench.specs.Entries.{counted, capped, misses-of, ways-of}
+use Rattle.bench.specs.Group.{sweep-at, RowsSwept}
+use Rattle.bench.specs.declared.entry.Entry.{Entry}
+
+pub rows-none : (f : Stepper) (s i t kind : ℕ) (es : List Entry) (ws : List ℕ) (lead : Option Lead) → length es ≡ 0 → lead ≡ None → RowsSwept f s i t kind es ws es ws 0 lead
+rows-none f s i t kind [] ws lead z n = record { rows = refl; misses = refl; ways = refl; compared = refl; told = n }
+rows-none f s i t kind (x ∷ es) ws lead z n = absurd (omega arith)
+
+-- what is asked of the words, line after line
+pub words-first : (s : ℕ) (es : List Entry) (d : Entry) (n : ℕ) → 0 < length es → lines-words s (ways-of es) ≤ n → line-words s (getD es 0 d .ways) + lines-words s (ways-of (drop 1 es)) ≤ n
+words-first s [] d n l h = absurd (not-suc-le-zero l)
+words-first s (x ∷ es) d n l h = h
+
+module _ (f : Stepper) (s i t kind : ℕ) where
+  pub rows-more : (es : List Entry) (d : Entry) (ws : List ℕ) → 0 < length es
+      → (es″ : List Entry) (rest : List ℕ) (c : ℕ) (lead : Option Lead) → RowsSwept f s i t kind (drop 1 es) (drop (line-words s (getD es 0 d .ways)) ws) es″ rest c lead
+      → (row : List ℕ) → row ≡ row-at (getD es 0 d .ways + 2) i (take (line-words s (getD es 0 d .ways)) ws)
+      → (x′ : Entry) (row′ : List ℕ) (hit : Bool) (n : ℕ) (lead′ : Option Lead)
+      → hit ≡ f (slot-of row) t lead .hit → n ≡ f (slot-of row) t lead .comparisons → row′ ≡ words-of (f (slot-of row) t lead .slot) → lead′ ≡ f (slot-of row) t lead .lead
+      → x′ .misses ≡ counted kind hit (getD es 0 d .misses) → x′ .ways ≡ getD es 0 d .ways
+      → RowsSwept f s i t kind es ws (x′ ∷ es″) (with-row (getD es 0 d .ways + 2) i (take (line-words s (getD es 0 d .ways)) ws) row′ ++ rest) (min (c + n) 18446744073709551615) lead′
+  rows-more [] d ws l es″ rest c lead R row er x′ row′ hit n lead′ eh en ew el em ea = absurd (not-suc-le-zero l)
+  rows-more (x ∷ es) d ws l es″ rest c lead R row er x′ row′ hit n lead′ eh en ew el em ea =
+      let mine = take (line-words s (x .ways)) ws in
+      let wide = sweep-at f s i t (ways-of es) (drop (line-words s (x .ways)) ws) in
+      let at : f (slot-of row) t lead ≡ f (slot-of (row-at (x .ways + 2) i mine)) t (wide .lead) =
+      ap (λ r. f (slot-of r) t lead) er ∙ ap (λ l. f (slot-of (row-at (x .ways + 2) i mine)) t l) (R .told) in
+      record {
+        rows =
+            ap (λ r. with-row (x .ways + 2) i mine r ++ rest) (ew ∙ ap (λ r. words-of (r .slot)) at)
+            ∙ ap (λ r. with-row (x .ways + 2) i mine (words-of (f (slot-of (row-at (x .ways + 2) i mine)) t (wide .lead) .slot)) ++ r) (R .rows);
+        misses =
+            ap (λ y. y ∷ misses-of es″) (em ∙ ap (λ h. counted kind h (x .misses)) (eh ∙ ap (λ r. r .hit) at))
+            ∙ ap (λ ys. counted kind (f (slot-of (row-at (x .ways + 2) i mine)) t (wide .lead) .hit) (x .misses) ∷ ys) (R .misses);
+        ways = ap (λ a. a ∷ ways-of es″) ea ∙ ap (λ bs. x .ways ∷ bs) (R .ways);
+        compared = let k = R .compared in let j = en ∙ ap (λ r. r .comparisons) at in omega arith;
+        told = el ∙ ap (λ r. r .lead) at;
+      }
+
+-- the first line counted, the others as the recursion left them
+pub lines-after : (es es″ : List Entry) (x′ : Entry) → 0 < length es → set (putMid 1 (length es - 1) es es″) 0 x′ ≡ x′ ∷ es″
+lines-after [] es″ x′ l = absurd (not-suc-le-zero l)
+lines-after (x ∷ es) es″ x′ l = ap (λ zs. x′ ∷ (es″ ++ zs)) (drop-all (suc (length es) - 1) es (omega arith)) ∙ ap (λ zs. x′ ∷ zs) (append-nil es″)
+
+pub first-after : (es es″ : List Entry) (d : Entry) → 0 < length es → getD (putMid 1 (length es - 1) es es″) 0 d ≡ getD es 0 d
+first-after [] es″ d l = absurd (not-suc-le-zero l)
+first-after (x ∷ es) es″ d l = refl
+
+-- the words after the first line's own are those that the recursion left
+module _ (s w i : ℕ) (ws rest : List ℕ) (room : s * w ≤ length ws) (low : i < s) where
+  rest-put : putMid (s * w) (length ws - s * w) ws rest ≡ take (s * w) ws ++ rest
+  rest-put = ap (λ zs. take (s * w) ws ++ (rest ++ zs)) (drop-all (length ws - s * w) (drop (s * w) ws) (omega (arith, length-drop (s * w) ws))) ∙ ap (λ zs. take (s * w) ws ++ zs) (append-nil rest)
+
+  pub row-ends : i * w + w ≤ length (take (s * w) ws)
+  row-ends = omega (arith, row-within i s w low, length-take-le (s * w) ws room)
+
+  span : i * w + w - i * w ≡ w
+  span = omega arith
+
+  drop-mine : (n : ℕ) → n ≤ s * w → drop n (take (s * w) ws ++ rest) ≡ drop n (take (s * w) ws) ++ rest
+  drop-mine n l = drop-append-le n (take (s * w) ws) rest (omega (arith, length-take-le (s * w) ws room))
+
+  pub row-part : take (i * w + w - i * w) (drop (i * w) (putMid (s * w) (length ws - s * w) ws rest)) ≡ row-at w i (take (s * w) ws)
+  row-part =
+      let ends = row-ends in
+      ap (λ k. take k (drop (i * w) (putMid (s * w) (length ws - s * w) ws rest))) span
+      ∙ ap (λ xs. take w (drop (i * w) xs)) rest-put
+      ∙ ap (take w) (drop-mine (i * w) (omega (arith, row-within i s w low)))
+      ∙ take-append-le w (drop (i * w) (take (s * w) ws)) rest (omega (arith, length-drop (i * w) (take (s * w) ws)))
+
+  pub row-put : (new : List ℕ) → putMid (i * w) (i * w + w - i * w) (putMid (s * w) (length ws - s * w) ws rest) new ≡ with-row w i (take (s * w) ws) new ++ rest
+  row-put new =
+      let ends = row-ends in
+      let mine = take (s * w) ws in
+      ap (λ k. putMid (i * w) k (putMid (s * w) (length ws - s * w) ws rest) new) span
+      ∙ ap (λ xs. putMid (i * w) w xs new) rest-put
+      ∙ ap (λ xs. xs ++ (new ++ drop w (drop (i * w) (mine ++ rest)))) (take-append-le (i * w) mine rest (omega arith))
+      ∙ ap (λ xs. take (i * w) mine ++ (new ++ drop w xs)) (drop-mine (i * w) (omega (arith, row-within i s w low)))
+      ∙ ap (λ xs. take (i * w) mine ++ (new ++ xs)) (drop-append-le w (drop (i * w) mine) rest (omega (arith, length-drop (i * w) mine)))
+      ∙ ap (λ xs. take (i * w) mine ++ xs) (sym (append-assoc new (drop w (drop (i * w) mine)) rest))
+      ∙ sym (append-assoc (take (i * w) mine) (new ++ drop w (drop (i * w) mine)) rest)
+
+-- the same sweep, with its results in another form
+pub rows-as : {f : Stepper} {s i t kind : ℕ} {es : List Entry} {ws : List ℕ} {es₁ es₂ : List Entry} {ws₁ ws₂ : List ℕ} {c₁ c₂ : ℕ} {lead : Option Lead}
+    → es₂ ≡ es₁ → ws₂ ≡ ws₁ → c₂ ≡ c₁ → RowsSwept f s i t kind es ws es₁ ws₁ c₁ lead → RowsSwept f s i t kind es ws es₂ ws₂ c₂ lead
+rows-as ee ew ec R = record {
+  rows = ew ∙ R .rows;
+  misses = ap misses-of ee ∙ R .misses;
+  ways = ap ways-of ee ∙ R .ways;
+  compared = ec ∙ R .compared;
+  told = R .told;
+}

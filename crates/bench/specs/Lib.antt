@@ -1,0 +1,6 @@
+pub mod Rows
+pub mod Beside
+pub mod Words
+pub mod Entries
+pub mod Group
+pub mod Lead

@@ -1,0 +1,16 @@
+// What the nearest wider leader did in a sweep of one set.
+ghost use Prim.Native.Nat.{_≤_};
+
+// A head word and at most 16 ways.
+pub(crate) const ROW_WORDS: usize = 17;
+
+// Whether there is a leader, whether it hit, its comparisons, and its row before the touch.
+#[derive(Clone, Copy)]
+pub(crate) struct Lead {
+    pub(crate) told: bool,
+    pub(crate) hit: bool,
+    pub(crate) place: usize,
+    pub(crate) before: [u32; ROW_WORDS],
+    pub(crate) words: usize,
+    ghost within: { words ≤ 17 },
+}

@@ -1,0 +1,7 @@
+// One pass over a trace for a whole table of caches.
+mod entry;
+mod lead;
+mod miss;
+mod row;
+mod rows;
+mod stepper;
