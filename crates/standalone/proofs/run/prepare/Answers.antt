@@ -43,4 +43,4 @@ returns-in-Break-geometry g c =
     let xs = c .args .accesses .now in
     let line = c .args .line .now in
     rw (out .1, out .2)
-      (after-some (line-questions p line) (ask 11 (leb (need line) (c .args .words)) ∷ ask 14 (leb (length xs) 4294967295) ∷ access-questions xs) (refusal-number (c .in-Break-geometry .field-0 .0)) (c .in-Break-geometry .ensures tt .passes))
+    (after-some (line-questions p line) (ask 11 (leb (need line) (c .args .words)) ∷ ask 14 (leb (length xs) 4294967295) ∷ access-questions xs) (refusal-number (c .in-Break-geometry .field-0 .0)) (c .in-Break-geometry .ensures tt .passes))
