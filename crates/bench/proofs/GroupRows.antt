@@ -1,4 +1,4 @@
--- One line more in the sweep of a group.
+-- One line more in the sweep of one set of a level.
 use mathlib.Core.Path.{_≡_, refl, sym, ap, _∙_, subst}
 use mathlib.Core.Bool.{Bool}
 use mathlib.Core.List.{List, [], _∷_, _++_}
@@ -8,49 +8,50 @@ use native.Mathlib.Omega.{arith}
 use borrow.Rule.Slice.PartMut.{putMid}
 use lib.ListN.{length, getD, set, take, drop}
 use Rattle.std.proofs.shelf.Lists.{drop-all, append-nil, append-assoc, take-take, drop-append-le, take-append-le, length-take-le, length-drop}
-use Rattle.std.specs.declared.option.Option.{Option}
-use Rattle.std.specs.declared.option.Option.the-variants.{Some, None}
 use Rattle.standalone.specs.Rows.{row-at, with-row}
 use Rattle.standalone.proofs.Laid.{row-within}
-use Rattle.bench.specs.Rows.{Slot, Lead, Stepped, Stepper}
-use Rattle.bench.specs.Words.{slot-of, words-of, line-words, lines-words, slots-at, with-slots}
-use Rattle.bench.specs.Entries.{counted, capped, misses-of, ways-of}
+use Rattle.policy.specs.declared.three.Member.{Member}
+use Rattle.bench.specs.Rows.{Slot, Stepped}
+use Rattle.bench.specs.Mixed.{Leads, Owned, no-leads, with-lead}
+use Rattle.bench.specs.Words.{Kin, slot-of, words-of, line-words, lines-words, rows-at, with-rows}
+use Rattle.bench.specs.Entries.{counted, capped, misses-of, kin-of}
 use Rattle.bench.specs.Group.{sweep-at, RowsSwept}
 use Rattle.bench.specs.declared.entry.Entry.{Entry}
 
-pub rows-none : (f : Stepper) (s i t kind : ℕ) (es : List Entry) (ws : List ℕ) (lead : Option Lead) → length es ≡ 0 → lead ≡ None → RowsSwept f s i t kind es ws es ws 0 lead
-rows-none f s i t kind [] ws lead z n = record { rows = refl; misses = refl; ways = refl; compared = refl; told = n }
+pub rows-none : (f : Owned → ℕ → Leads → Stepped) (s i t kind : ℕ) (es : List Entry) (ws : List ℕ) (lead : Leads) → length es ≡ 0 → lead ≡ no-leads → RowsSwept f s i t kind es ws es ws 0 lead
+rows-none f s i t kind [] ws lead z n = record { rows = refl; misses = refl; kin = refl; compared = refl; told = n }
 rows-none f s i t kind (x ∷ es) ws lead z n = absurd (omega arith)
 
 -- what is asked of the words, line after line
-pub words-first : (s : ℕ) (es : List Entry) (d : Entry) (n : ℕ) → 0 < length es → lines-words s (ways-of es) ≤ n → line-words s (getD es 0 d .ways) + lines-words s (ways-of (drop 1 es)) ≤ n
+pub words-first : (s : ℕ) (es : List Entry) (d : Entry) (n : ℕ) → 0 < length es → lines-words s (kin-of es) ≤ n → line-words s (getD es 0 d .ways) + lines-words s (kin-of (drop 1 es)) ≤ n
 words-first s [] d n l h = absurd (not-suc-le-zero l)
 words-first s (x ∷ es) d n l h = h
 
-module _ (f : Stepper) (s i t kind : ℕ) where
+module _ (f : Owned → ℕ → Leads → Stepped) (s i t kind : ℕ) where
   pub rows-more : (es : List Entry) (d : Entry) (ws : List ℕ) → 0 < length es
-      → (es″ : List Entry) (rest : List ℕ) (c : ℕ) (lead : Option Lead) → RowsSwept f s i t kind (drop 1 es) (drop (line-words s (getD es 0 d .ways)) ws) es″ rest c lead
-      → (row : List ℕ) → row ≡ row-at (getD es 0 d .ways + 2) i (take (line-words s (getD es 0 d .ways)) ws)
-      → (x′ : Entry) (row′ : List ℕ) (hit : Bool) (n : ℕ) (lead′ : Option Lead)
-      → hit ≡ f (slot-of row) t lead .hit → n ≡ f (slot-of row) t lead .comparisons → row′ ≡ words-of (f (slot-of row) t lead .slot) → lead′ ≡ f (slot-of row) t lead .lead
-      → x′ .misses ≡ counted kind hit (getD es 0 d .misses) → x′ .ways ≡ getD es 0 d .ways
+      → (es″ : List Entry) (rest : List ℕ) (c : ℕ) (lead : Leads) → RowsSwept f s i t kind (drop 1 es) (drop (line-words s (getD es 0 d .ways)) ws) es″ rest c lead
+      → (j : Member) → j ≡ getD es 0 d .member → (row : List ℕ) → row ≡ row-at (getD es 0 d .ways + 2) i (take (line-words s (getD es 0 d .ways)) ws)
+      → (x′ : Entry) (row′ : List ℕ) (hit : Bool) (n : ℕ) (lead′ : Leads)
+      → hit ≡ f (record { member = j; slot = slot-of row }) t lead .hit → n ≡ f (record { member = j; slot = slot-of row }) t lead .comparisons → row′ ≡ words-of (f (record { member = j; slot = slot-of row }) t lead .slot) → lead′ ≡ with-lead lead j (f (record { member = j; slot = slot-of row }) t lead .lead)
+      → x′ .misses ≡ counted kind hit (getD es 0 d .misses) → x′ .ways ≡ getD es 0 d .ways → x′ .member ≡ getD es 0 d .member
       → RowsSwept f s i t kind es ws (x′ ∷ es″) (with-row (getD es 0 d .ways + 2) i (take (line-words s (getD es 0 d .ways)) ws) row′ ++ rest) (min (c + n) 18446744073709551615) lead′
-  rows-more [] d ws l es″ rest c lead R row er x′ row′ hit n lead′ eh en ew el em ea = absurd (not-suc-le-zero l)
-  rows-more (x ∷ es) d ws l es″ rest c lead R row er x′ row′ hit n lead′ eh en ew el em ea =
+  rows-more [] d ws l es″ rest c lead R j ej row er x′ row′ hit n lead′ eh en ew el em ea ek = absurd (not-suc-le-zero l)
+  rows-more (x ∷ es) d ws l es″ rest c lead R j ej row er x′ row′ hit n lead′ eh en ew el em ea ek =
       let mine = take (line-words s (x .ways)) ws in
-      let wide = sweep-at f s i t (ways-of es) (drop (line-words s (x .ways)) ws) in
-      let at : f (slot-of row) t lead ≡ f (slot-of (row-at (x .ways + 2) i mine)) t (wide .lead) =
-      ap (λ r. f (slot-of r) t lead) er ∙ ap (λ l. f (slot-of (row-at (x .ways + 2) i mine)) t l) (R .told) in
+      let wide = sweep-at f s i t (kin-of es) (drop (line-words s (x .ways)) ws) in
+      let mark : List ℕ → Owned = λ r. record { member = x .member; slot = slot-of r } in
+      let here = mark (row-at (x .ways + 2) i mine) in
+      let at : f (record { member = j; slot = slot-of row }) t lead ≡ f here t (wide .leads) = ap (λ k. f (record { member = k; slot = slot-of row }) t lead) ej ∙ ap (λ r. f (mark r) t lead) er ∙ ap (λ l. f here t l) (R .told) in
       record {
         rows =
             ap (λ r. with-row (x .ways + 2) i mine r ++ rest) (ew ∙ ap (λ r. words-of (r .slot)) at)
-            ∙ ap (λ r. with-row (x .ways + 2) i mine (words-of (f (slot-of (row-at (x .ways + 2) i mine)) t (wide .lead) .slot)) ++ r) (R .rows);
+            ∙ ap (λ r. with-row (x .ways + 2) i mine (words-of (f here t (wide .leads) .slot)) ++ r) (R .rows);
         misses =
             ap (λ y. y ∷ misses-of es″) (em ∙ ap (λ h. counted kind h (x .misses)) (eh ∙ ap (λ r. r .hit) at))
-            ∙ ap (λ ys. counted kind (f (slot-of (row-at (x .ways + 2) i mine)) t (wide .lead) .hit) (x .misses) ∷ ys) (R .misses);
-        ways = ap (λ a. a ∷ ways-of es″) ea ∙ ap (λ bs. x .ways ∷ bs) (R .ways);
+            ∙ ap (λ ys. counted kind (f here t (wide .leads) .hit) (x .misses) ∷ ys) (R .misses);
+        kin = ap (λ a. record { member = x′ .member; ways = a } ∷ kin-of es″) ea ∙ ap (λ j. record { member = j; ways = x .ways } ∷ kin-of es″) ek ∙ ap (λ ks. record { member = x .member; ways = x .ways } ∷ ks) (R .kin);
         compared = let k = R .compared in let j = en ∙ ap (λ r. r .comparisons) at in omega arith;
-        told = el ∙ ap (λ r. r .lead) at;
+        told = el ∙ ap (λ k. with-lead lead k (f (record { member = j; slot = slot-of row }) t lead .lead)) ej ∙ ap (λ l. with-lead l (x .member) (f (record { member = j; slot = slot-of row }) t lead .lead)) (R .told) ∙ ap (λ r. with-lead (wide .leads) (x .member) (r .lead)) at;
       }
 
 -- the first line counted, the others as the recursion left them
@@ -97,12 +98,12 @@ module _ (s w i : ℕ) (ws rest : List ℕ) (room : s * w ≤ length ws) (low : 
       ∙ sym (append-assoc (take (i * w) mine) (new ++ drop w (drop (i * w) mine)) rest)
 
 -- the same sweep, with its results in another form
-pub rows-as : {f : Stepper} {s i t kind : ℕ} {es : List Entry} {ws : List ℕ} {es₁ es₂ : List Entry} {ws₁ ws₂ : List ℕ} {c₁ c₂ : ℕ} {lead : Option Lead}
+pub rows-as : {f : Owned → ℕ → Leads → Stepped} {s i t kind : ℕ} {es : List Entry} {ws : List ℕ} {es₁ es₂ : List Entry} {ws₁ ws₂ : List ℕ} {c₁ c₂ : ℕ} {lead : Leads}
     → es₂ ≡ es₁ → ws₂ ≡ ws₁ → c₂ ≡ c₁ → RowsSwept f s i t kind es ws es₁ ws₁ c₁ lead → RowsSwept f s i t kind es ws es₂ ws₂ c₂ lead
 rows-as ee ew ec R = record {
   rows = ew ∙ R .rows;
   misses = ap misses-of ee ∙ R .misses;
-  ways = ap ways-of ee ∙ R .ways;
+  kin = ap kin-of ee ∙ R .kin;
   compared = ec ∙ R .compared;
   told = R .told;
 }

@@ -1,5 +1,6 @@
 pub mod Alike
 pub mod Steps
 pub mod SweepSet
+pub mod Restrict
 pub mod RowWords
 pub mod GroupRows

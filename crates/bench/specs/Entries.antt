@@ -3,6 +3,7 @@ use mathlib.Core.Bool.{Bool, cond}
 use mathlib.Core.List.{List, [], _∷_, map}
 use Prim.Native.Nat.{ℕ, _+_, min}
 use lib.ListN.{getD, set}
+use Rattle.bench.specs.Words.{Kin}
 use Rattle.bench.specs.declared.entry.Entry.{Entry}
 
 -- one miss more of a kind, unless it is a hit; a count stops at 4,294,967,295, which no run reaches
@@ -19,8 +20,8 @@ all-counted kind [] ms = ms
 all-counted kind (h ∷ hs) [] = []
 all-counted kind (h ∷ hs) (m ∷ ms) = counted kind h m ∷ all-counted kind hs ms
 
-abbrev pub ways-of : List Entry → List ℕ
-ways-of es = map (λ x. x .ways) es
+abbrev pub kin-of : List Entry → List Kin
+kin-of es = map (λ x. record { member = x .member; ways = x .ways }) es
 
 abbrev pub misses-of : List Entry → List (List ℕ)
 misses-of es = map (λ x. x .misses) es

@@ -1,4 +1,6 @@
+pub mod Suite
 pub mod Rows
+pub mod Mixed
 pub mod Beside
 pub mod Words
 pub mod Entries

@@ -90,11 +90,7 @@ pub record Swept : Type 0 where
 abbrev pub swept-more : Stepped → Swept → Swept
 swept-more r w = record { slots = r .slot ∷ w .slots; hits = r .hit ∷ w .hits; comparisons = r .comparisons + w .comparisons; lead = r .lead }
 
--- how a policy steps: a row, the tag, and what the nearest wider leader did
-abbrev pub Stepper : Type 0
-Stepper = Slot → ℕ → Option Lead → Stepped
-
 -- the widest row first
-abbrev pub sweep : Stepper → List Slot → ℕ → Swept
+abbrev pub sweep : (Slot → ℕ → Option Lead → Stepped) → List Slot → ℕ → Swept
 sweep f [] t = record { slots = []; hits = []; comparisons = 0; lead = None }
 sweep f (x ∷ xs) t = swept-more (f x t (sweep f xs t .lead)) (sweep f xs t)

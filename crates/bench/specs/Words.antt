@@ -4,7 +4,14 @@ use mathlib.Core.List.{List, [], _∷_, _++_}
 use Prim.Native.Nat.{ℕ, _+_, _-_, _*_}
 use lib.ListN.{length, getD, take, drop}
 use Rattle.standalone.specs.Rows.{row-at, with-row}
+use Rattle.policy.specs.declared.three.Member.{Member}
 use Rattle.bench.specs.Rows.{Slot}
+use Rattle.bench.specs.Mixed.{Owned}
+
+-- the policy and the ways of a line
+pub record Kin : Type 0 where
+  pub member : Member
+  pub ways : ℕ
 
 abbrev pub slot-of : List ℕ → Slot
 slot-of ws = record { ways = length ws - 2; lead = getD ws 0 0; row = drop 1 ws }
@@ -16,18 +23,18 @@ words-of x = x .lead ∷ x .row
 abbrev pub line-words : ℕ → ℕ → ℕ
 line-words s a = s * (a + 2)
 
--- the words of lines with these ways
-abbrev pub lines-words : ℕ → List ℕ → ℕ
+-- the words of lines of these policies and ways
+abbrev pub lines-words : ℕ → List Kin → ℕ
 lines-words s [] = 0
-lines-words s (a ∷ bs) = line-words s a + lines-words s bs
+lines-words s (k ∷ ks) = line-words s (k .ways) + lines-words s ks
 
 -- the rows of set i, one a line
-abbrev pub slots-at : ℕ → ℕ → List ℕ → List ℕ → List Slot
-slots-at s i [] ws = []
-slots-at s i (a ∷ bs) ws = slot-of (row-at (a + 2) i (take (line-words s a) ws)) ∷ slots-at s i bs (drop (line-words s a) ws)
+abbrev pub rows-at : ℕ → ℕ → List Kin → List ℕ → List Owned
+rows-at s i [] ws = []
+rows-at s i (k ∷ ks) ws = record { member = k .member; slot = slot-of (row-at (k .ways + 2) i (take (line-words s (k .ways)) ws)) } ∷ rows-at s i ks (drop (line-words s (k .ways)) ws)
 
 -- the words with other rows of set i
-abbrev pub with-slots : ℕ → ℕ → List ℕ → List Slot → List ℕ → List ℕ
-with-slots s i [] xs ws = ws
-with-slots s i (a ∷ bs) [] ws = ws
-with-slots s i (a ∷ bs) (x ∷ xs) ws = with-row (a + 2) i (take (line-words s a) ws) (words-of x) ++ with-slots s i bs xs (drop (line-words s a) ws)
+abbrev pub with-rows : ℕ → ℕ → List Kin → List Owned → List ℕ → List ℕ
+with-rows s i [] xs ws = ws
+with-rows s i (k ∷ ks) [] ws = ws
+with-rows s i (k ∷ ks) (x ∷ xs) ws = with-row (k .ways + 2) i (take (line-words s (k .ways)) ws) (words-of (x .slot)) ++ with-rows s i ks xs (drop (line-words s (k .ways)) ws)

@@ -14,3 +14,10 @@ pub(crate) struct Lead {
     pub(crate) words: usize,
     ghost within: { words ≤ 17 },
 }
+
+// The nearest wider leaders of the two nesting policies.
+#[derive(Clone, Copy)]
+pub(crate) struct Leads {
+    pub(crate) first: Lead,
+    pub(crate) second: Lead,
+}

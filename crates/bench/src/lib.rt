@@ -2,6 +2,6 @@
 mod entry;
 mod lead;
 mod miss;
+mod owned;
 mod row;
 mod rows;
-mod stepper;

@@ -10,6 +10,7 @@ impl Entry {
         requires { ⌜ kind < 3 ⌝ }
         ensures misses { λ _. ⌜ now (self .exit) .misses ≡ counted kind hit (now (self .entry) .misses) ⌝ }
         ensures ways { λ _. ⌜ now (self .exit) .ways ≡ now (self .entry) .ways ⌝ }
+        ensures member { λ _. ⌜ now (self .exit) .member ≡ now (self .entry) .member ⌝ }
     {
         if !hit {
             self.misses[kind] = self.misses[kind].saturating_add(1);

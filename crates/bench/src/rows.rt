@@ -1,15 +1,20 @@
-// The rows of one set in the lines of one policy at one level.
+// The rows of one set in the wider lines of one level.
 ghost use mathlib.Core.Path.{_≡_};
 ghost use Prim.Native.Nat.{_<_, _≤_};
 ghost use lib.ListN.{length};
-ghost use Rattle.std.specs.declared.option.Option.the-variants.{None};
-ghost use Rattle.bench.specs.Entries.{ways-of};
+ghost use Rattle.policy.specs.Three.{three};
+ghost use Rattle.bench.specs.Entries.{kin-of};
 ghost use Rattle.bench.specs.Group.{RowsSwept};
-ghost use Rattle.bench.specs.Lead.{lead-of};
+ghost use Rattle.bench.specs.Lead.{leads-seen};
+ghost use Rattle.bench.specs.Mixed.{no-leads, own-step};
+ghost use Rattle.bench.specs.Suite.{suite};
 ghost use Rattle.bench.specs.Words.{lines-words};
 use crate::entry::Entry;
-use crate::lead::Lead;
-use crate::stepper::Step;
+use crate::lead::Leads;
+use crate::owned::step_owned;
+use policy::three::Policies;
+use policy::traits::Nesting;
+use policy::traits::Policy;
 
 // Where an access falls at a level: which of how many sets, with which tag, and its kind.
 #[derive(Clone, Copy)]
@@ -21,25 +26,26 @@ pub(crate) struct Place {
 }
 
 // Sweeps the rows of one set, the widest line first, and counts misses; answers the comparisons that are reported.
-pub(crate) fn sweep_rows<F: Step>(
-    policy: &F,
+pub(crate) fn sweep_rows<A: Nesting, B: Nesting, C: Policy>(
+    policies: &Policies<A, B, C>,
     lines: &mut [Entry],
     words: &mut [u32],
     at: Place,
-    lead: &mut Lead,
+    leads: &mut Leads,
 ) -> u64
-    requires { ⌜ lines-words (at .sets) (ways-of (now lines)) ≤ length (now words) ⌝ ∗ ⌜ at .set < at .sets ⌝ ∗ ⌜ at .kind < 3 ⌝ ∗ ⌜ lead-of (now lead) ≡ None ⌝ }
-    ensures { λ r. ⌜ RowsSwept stepped (at .sets) (at .set) (at .tag) (at .kind) (now (lines .entry)) (now (words .entry)) (now (lines .exit)) (now (words .exit)) r (lead-of (now (lead .exit))) ⌝ }
+    requires { ⌜ lines-words (at .sets) (kin-of (now lines)) ≤ length (now words) ⌝ ∗ ⌜ at .set < at .sets ⌝ ∗ ⌜ at .kind < 3 ⌝ ∗ ⌜ leads-seen (now leads) ≡ no-leads ⌝ }
+    ensures { λ r. ⌜ RowsSwept (own-step (suite (three (A·Policy .meaning) (B·Policy .meaning) (C·Policy .meaning)) (A·Nesting .nest) (B·Nesting .nest))) (at .sets) (at .set) (at .tag) (at .kind) (now (lines .entry)) (now (words .entry)) (now (lines .exit)) (now (words .exit)) r (leads-seen (now (leads .exit))) ⌝ }
 {
     if lines.is_empty() {
         return 0;
     }
     let width = lines[0].ways + 2;
+    let member = lines[0].member;
     let size = at.sets * width;
-    let wider = sweep_rows(policy, &mut lines[1..], &mut words[size..], at, lead);
+    let wider = sweep_rows(policies, &mut lines[1..], &mut words[size..], at, leads);
     let from = at.set * width;
     let to = from + width;
-    let (hit, compared) = policy.step(&mut words[from..to], at.tag, lead);
+    let (hit, compared) = step_owned(policies, member, &mut words[from..to], at.tag, leads);
     lines[0].count(at.kind, hit);
     wider.saturating_add(compared as u64)
 }

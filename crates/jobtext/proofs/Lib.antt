@@ -4,7 +4,6 @@ pub mod Formed
 pub mod Lines
 pub mod States
 pub mod Figures
-pub mod Asking
 pub mod Canonical
 pub mod ReadBack
 pub mod Rounds

@@ -26,7 +26,7 @@ use Rattle.geometry.specs.declared.line.Line.{Line}
 use Rattle.geometry.specs.declared.refusal.Refusal.{Refusal}
 use Rattle.jobtext.specs.Round.{ReadsAs, WrittenBack}
 use Rattle.jobtext.specs.Written.{counted, fit-question, line-text, overwritten, seen-length, write-questions}
-use Rattle.jobtext.proofs.Asking.{first-no-after, first-no-stays}
+use Rattle.geometry.proofs.Asked.{after-none, after-some}
 use Rattle.jobtext.proofs.Canonical.{canonical}
 use Rattle.jobtext.proofs.ReadBack.{reads-back}
 
@@ -104,7 +104,7 @@ pub record Wrote (p : Three) (line : Line) (buffer exit : List ℕ) (r : Result 
 -- a line that passed is put into the buffer, if it fits there
 pub wrote : (p : Three) (line : Line) (buffer exit text : List ℕ) (r : Result ℕ Refusal) → text ≡ line-text line → seen-length r ≡ counted (first-no (fit-question text buffer)) text → exit ≡ overwritten (first-no (fit-question text buffer)) text buffer → first-no (line-questions p line) ≡ None → Allowed line → Wrote p line buffer exit r
 wrote p line buffer exit text r is len by passed ok =
-    let asked = sym (first-no-after (line-questions p line) (fit-question (line-text line) buffer) passed) in
+    let asked = sym (after-none (line-questions p line) (fit-question (line-text line) buffer) passed) in
     let all-len = len ∙ ap (λ (t : List ℕ). counted (first-no (fit-question t buffer)) t) is ∙ ap (λ (o : Option ℕ). counted o (line-text line)) asked in
     let all-by = by ∙ ap (λ (t : List ℕ). overwritten (first-no (fit-question t buffer)) t buffer) is ∙ ap (λ (o : Option ℕ). overwritten o (line-text line) buffer) asked in
     record {
@@ -117,7 +117,7 @@ wrote p line buffer exit text r is len by passed ok =
 -- a line that did not pass changes nothing
 pub refused : (p : Three) (line : Line) (buffer : List ℕ) (e : Refusal) → first-no (line-questions p line) ≡ Some (refusal-number e) → Wrote p line buffer buffer (Err e)
 refused p line buffer e no-pass =
-    let asked = sym (first-no-stays (line-questions p line) (fit-question (line-text line) buffer) (refusal-number e) no-pass) in
+    let asked = sym (after-some (line-questions p line) (fit-question (line-text line) buffer) (refusal-number e) no-pass) in
     record {
       length = ap (λ (o : Option ℕ). counted o (line-text line)) asked;
       bytes = ap (λ (o : Option ℕ). overwritten o (line-text line) buffer) asked;
