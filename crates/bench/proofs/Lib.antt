@@ -4,3 +4,4 @@ pub mod SweepSet
 pub mod Restrict
 pub mod RowWords
 pub mod GroupRows
+pub mod LevelRows

@@ -4,5 +4,7 @@ pub mod Mixed
 pub mod Beside
 pub mod Words
 pub mod Entries
+pub mod Direct
 pub mod Group
+pub mod Level
 pub mod Lead

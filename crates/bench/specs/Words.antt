@@ -1,7 +1,9 @@
 -- The words of the rows in the workspace. A row has a lead word and the policy's own words; a line of a ways has a row of
 -- a + 2 words for each of its s sets, by rising set.
+use mathlib.Core.Bool.{Bool, false, cond}
 use mathlib.Core.List.{List, [], _∷_, _++_}
 use Prim.Native.Nat.{ℕ, _+_, _-_, _*_}
+use lib.Dec.{leb}
 use lib.ListN.{length, getD, take, drop}
 use Rattle.standalone.specs.Rows.{row-at, with-row}
 use Rattle.policy.specs.declared.three.Member.{Member}
@@ -22,6 +24,21 @@ words-of x = x .lead ∷ x .row
 -- the words of a line
 abbrev pub line-words : ℕ → ℕ → ℕ
 line-words s a = s * (a + 2)
+
+-- a line of one way has no rows: the level's direct-mapped cache serves it
+abbrev pub one-way : Kin → Bool
+one-way k = leb (k .ways) 1
+
+-- the wider lines
+abbrev pub wide : List Kin → List Kin
+wide [] = []
+wide (k ∷ ks) = cond (one-way k) (wide ks) (k ∷ wide ks)
+
+-- what each line did where the direct-mapped cache missed: a line of one way missed, the others as their rows tell
+abbrev pub spread : List Kin → List Bool → List Bool
+spread [] hits = []
+spread (k ∷ ks) [] = cond (one-way k) (false ∷ spread ks []) []
+spread (k ∷ ks) (h ∷ hits) = cond (one-way k) (false ∷ spread ks (h ∷ hits)) (h ∷ spread ks hits)
 
 -- the words of lines of these policies and ways
 abbrev pub lines-words : ℕ → List Kin → ℕ

@@ -1,4 +1,4 @@
-// The rows of one set in the wider lines of one level.
+// The rows of one set in the lines of one level.
 ghost use mathlib.Core.Path.{_≡_};
 ghost use Prim.Native.Nat.{_<_, _≤_};
 ghost use lib.ListN.{length};
@@ -8,7 +8,7 @@ ghost use Rattle.bench.specs.Group.{RowsSwept};
 ghost use Rattle.bench.specs.Lead.{leads-seen};
 ghost use Rattle.bench.specs.Mixed.{no-leads, own-step};
 ghost use Rattle.bench.specs.Suite.{suite};
-ghost use Rattle.bench.specs.Words.{lines-words};
+ghost use Rattle.bench.specs.Words.{lines-words, wide};
 use crate::entry::Entry;
 use crate::lead::Leads;
 use crate::owned::step_owned;
@@ -33,14 +33,20 @@ pub(crate) fn sweep_rows<A: Nesting, B: Nesting, C: Policy>(
     at: Place,
     leads: &mut Leads,
 ) -> u64
-    requires { ⌜ lines-words (at .sets) (kin-of (now lines)) ≤ length (now words) ⌝ ∗ ⌜ at .set < at .sets ⌝ ∗ ⌜ at .kind < 3 ⌝ ∗ ⌜ leads-seen (now leads) ≡ no-leads ⌝ }
+    requires { ⌜ lines-words (at .sets) (wide (kin-of (now lines))) ≤ length (now words) ⌝ ∗ ⌜ at .set < at .sets ⌝ ∗ ⌜ at .kind < 3 ⌝ ∗ ⌜ leads-seen (now leads) ≡ no-leads ⌝ }
     ensures { λ r. ⌜ RowsSwept (own-step (suite (three (A·Policy .meaning) (B·Policy .meaning) (C·Policy .meaning)) (A·Nesting .nest) (B·Nesting .nest))) (at .sets) (at .set) (at .tag) (at .kind) (now (lines .entry)) (now (words .entry)) (now (lines .exit)) (now (words .exit)) r (leads-seen (now (leads .exit))) ⌝ }
 {
     if lines.is_empty() {
         return 0;
     }
-    let width = lines[0].ways + 2;
+    let ways = lines[0].ways;
     let member = lines[0].member;
+    if ways <= 1 {
+        let compared = sweep_rows(policies, &mut lines[1..], words, at, leads);
+        lines[0].count(at.kind, false);
+        return compared;
+    }
+    let width = ways + 2;
     let size = at.sets * width;
     let wider = sweep_rows(policies, &mut lines[1..], &mut words[size..], at, leads);
     let from = at.set * width;
