@@ -1,5 +1,8 @@
 // Reads a job from standard input and tells what is in it, or the first fault.
 mod survey;
+mod table;
+#[cfg(test)]
+mod tests;
 
 use jobtext::fault::Fault;
 use std::error::AnyError;

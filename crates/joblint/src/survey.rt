@@ -1,4 +1,5 @@
 // What a job holds, by kinds of lines.
+use crate::table::check_table;
 use jobtext::fault::Fault;
 use jobtext::reader::Reader;
 use jobtext::record::AccessKind;
@@ -66,9 +67,13 @@ pub fn look_through(text: &[u8]) -> Result<Survey, Fault> {
     let mut reader = Reader::new();
     let mut at = 0;
     for _ in 0..text.len() {
+        let job_line = reader.job_line();
         let Some(line) = reader.step(text.get(at..).unwrap_or(&[]))? else {
             break;
         };
+        if let Record::Open = line.record {
+            check_table(reader.table(), job_line)?;
+        }
         found.count(&line.record);
         at = line.length.saturating_add(at);
     }
