@@ -1,4 +1,6 @@
 // One pass over a trace for a whole table of caches.
+#![tactic(auto)]
+
 mod access;
 pub mod bench;
 pub mod call;

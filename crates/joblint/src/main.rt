@@ -1,4 +1,6 @@
 // Reads a job from standard input and tells what is in it, or the first fault.
+#![tactic(auto)]
+
 mod survey;
 mod table;
 #[cfg(test)]

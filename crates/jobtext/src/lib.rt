@@ -1,4 +1,6 @@
 // The text of a job: its lines as records, its table, and what is written back.
+#![tactic(auto)]
+
 mod bytes;
 mod compose;
 pub mod fault;

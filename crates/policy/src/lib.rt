@@ -1,4 +1,6 @@
 // Replacement policies: what one row of a cache remembers, and which tag it gives up.
+#![tactic(auto)]
+
 pub mod fifo;
 pub mod lru;
 pub mod plru;

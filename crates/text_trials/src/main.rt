@@ -1,4 +1,6 @@
 // Reads lines and jobs, good and bad, and compares each answer with what it must be.
+#![tactic(auto)]
+
 mod case;
 mod shown;
 

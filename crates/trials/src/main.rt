@@ -1,4 +1,6 @@
 // Runs the library's caches next to a plain simulator, and makes calls that it must refuse.
+#![tactic(auto)]
+
 mod campaign;
 mod cases;
 mod comparison;

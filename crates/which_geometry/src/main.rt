@@ -1,5 +1,7 @@
 // Which cache did the console have? Runs six candidates over a small trace, each alone and then all in one pass, and
 // compares their misses with a measurement.
+#![tactic(auto)]
+
 use bench::bench::Bench;
 use geometry::line::Line;
 use policy::fifo::Fifo;

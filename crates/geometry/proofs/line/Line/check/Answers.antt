@@ -6,10 +6,9 @@ use Rattle.geometry.proofs.line.Line.check.Goals as goal
 pub invariant_of-result : goal.invariant_of-result
 invariant_of-result g c =
     let p = three g.A.Policy.meaning g.B.Policy.meaning g.C.Policy.meaning in
-    let laws = lawful_of p g.met.A.Policy.lawful g.met.B.Policy.lawful g.met.C.Policy.lawful c.in-Some.member in (
-      c.in-Some-exponent_of.ensures.0,
-      (
-        c.in-Some-exponent_of-2.ensures.0,
-        ((laws.ways c.args.self.now.ways (sym c.takes.ensures ∙ c.if-not-takes.false)).1, tt),
-      ),
-    )
+    let laws = lawful_of p g.met.A.Policy.lawful g.met.B.Policy.lawful g.met.C.Policy.lawful c.in-Some.member in
+    record {
+      sets_allowed = c.in-Some-exponent_of.ensures.0;
+      block_allowed = c.in-Some-exponent_of-2.ensures.0;
+      ways_allowed = (laws.ways c.args.self.now.ways (sym c.takes.ensures ∙ c.if-not-takes.false)).1;
+    }
