@@ -11,7 +11,7 @@ use Rattle.bench.proofs.lines.check_line.Goals as goal
 pub returns-in_err-geometry : goal.returns-in_err-geometry
 returns-in_err-geometry g c =
     let p = three g.A.Policy.meaning g.B.Policy.meaning g.C.Policy.meaning in
-    let out = err_from_is_err_and c.from-residual.result c.from-residual.ensures.1 in
+    let out = err_from_is_err_and c.from_residual.result c.from_residual.ensures.1 in
     let line = c.args.line.now in
     record {
       passes = rw (out.1, out.2) (after_some (line_questions p line) (ask 10 (in_order c.args.last.now line) ∷ []) (refusal_number c.in_err-geometry.field-0.0) c.in_err-geometry.ensures.passes);

@@ -9,6 +9,6 @@ returns c =
     let a = c.args.geometry.now.ways in
     let is : c.sets.result * (a + 2) ≡ 2 ^ e * (a + 2) = ap (λ n. n * (a + 2)) c.sets.ensures in
     record {
-      0 = is ∙ sym (cond-false _ 0 (2 ^ e * (a + 2)) (lt-leb a 1 (search rules)));
+      value = is ∙ sym (cond-false _ 0 (2 ^ e * (a + 2)) (lt-leb a 1 (search rules)));
       small = subst (λ n. n ≤ 294912) (sym is) (rows_most e a (search rules) (search rules));
     }

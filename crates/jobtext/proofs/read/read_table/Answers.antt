@@ -3,7 +3,7 @@ use Rattle.jobtext.specs.Fields.{fields}
 use Rattle.jobtext.specs.Forms.{table_form}
 use Rattle.jobtext.proofs.Formed.{form_count, form_wrong, no_letter, table_right, table_wrong}
 use Rattle.jobtext.proofs.read.read_table.Goals as goal
-use Rattle.jobtext.proofs.read.read_table.Goals.{in_default-via-then-rest-lt2, in_default-via-else-rest-lt2+then-rest-lt65, in_default-via-else-rest-lt2+else-rest-lt65+then-rest-lt91+in_default·, in_default-via-else-rest-lt2+else-rest-lt65+else-rest-lt91}
+use Rattle.jobtext.proofs.read.read_table.Goals.{in_default-via-then-rest-lt2, in_default-via-else-rest-lt2+then-rest-lt65, in_default-via-else-rest-lt2+else-rest-lt65+then-rest-lt91+in_default-1, in_default-via-else-rest-lt2+else-rest-lt65+else-rest-lt91}
 
 pub returns-then-count_fields-ne4 : goal.returns-then-count_fields-ne4
 returns-then-count_fields-ne4 c = form_count table_form (fields c.args.rest.now) (λ e. c.if-count_fields-ne4.true (c.count_fields.ensures ∙ e))
@@ -15,7 +15,7 @@ returns-in_default c =
     (no_letter c.args.rest.now four (λ long low high comma. elim c.in_default.branch [
       | in_default-via-then-rest-lt2 w ↦ search rules
       | in_default-via-else-rest-lt2+then-rest-lt65 w ↦ search rules
-      | in_default-via-else-rest-lt2+else-rest-lt65+then-rest-lt91+in_default· w ↦ search rules
+      | in_default-via-else-rest-lt2+else-rest-lt65+then-rest-lt91+in_default-1 w ↦ search rules
       | in_default-via-else-rest-lt2+else-rest-lt65+else-rest-lt91 w ↦ search rules
     ]))
 

@@ -5,4 +5,4 @@ use Rattle.bench.proofs.entry.Entry.stand_alone.Goals as goal
 pub invariant_of-span : goal.invariant_of-span
 invariant_of-span c =
     let most = sets_most c.args.self.now.geometry.set_bits (search rules) in
-    (omega (arith, most, c.sets.ensures, c.row_words.ensures.small), tt)
+    record { small = omega (arith, most, c.sets.ensures, c.row_words.ensures.small) }

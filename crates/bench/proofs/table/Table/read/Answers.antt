@@ -15,16 +15,13 @@ invariant_of-result g c =
     let es' = c.link-need.new.lines in
     let all = c.read_lines.auto.entries in
     let long : length es' ≡ n = c.link-need.auto.lines ∙ length-take-le n es (search rules) in
-    let first : es' ≡ take n (es' ++ drop n es) = sym (take_at es' (drop n es) n long) in (
-      omega (arith, length-append es' (drop n es), length-drop n es, c.empty.result.room),
-      (
-        search rules,
-        (
-          subst (λ zs. linked zs ≡ true) first c.link-need.ensures.spans,
-          (subst (λ zs. c.link-need.result ≡ families_words (families (configs zs))) first c.link-need.ensures.need, tt),
-        ),
-      ),
-    )
+    let first : es' ≡ take n (es' ++ drop n es) = sym (take_at es' (drop n es) n long) in
+    record {
+      room = omega (arith, length-append es' (drop n es), length-drop n es, c.empty.result.room);
+      few = search rules;
+      spans = subst (λ zs. linked zs ≡ true) first c.link-need.ensures.spans;
+      needs = subst (λ zs. c.link-need.result ≡ families_words (families (configs zs))) first c.link-need.ensures.need;
+    }
 
 pub returns : goal.returns
 returns g c =
