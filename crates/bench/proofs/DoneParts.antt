@@ -1,5 +1,5 @@
 -- Parts of a sweep that are done one after the other.
-use Rattle.std.proofs.Common.{◌≡◌, ℕ, suc, ◌+◌, ◌*◌, ◌≤◌, min, Bool, true, false, cond, List, [], ◌∷◌, ◌++◌, map, length, take, drop, sym, refl, ap, ◌∙◌, arith}
+use Rattle.std.proofs.Common.{◌≡◌, ℕ, suc, ◌+◌, ◌*◌, ◌≤◌, min, Bool, true, false, cond, List, [], ◌∷◌, ◌++◌, length, take, drop, sym, refl, ap, ◌∙◌, arith}
 use Rattle.std.specs.List.{AllByRecursion as All}
 use Rattle.std.proofs.lemmas.List.{length-append, length-drop, length-map, length-take}
 use Rattle.std.proofs.lemmas.Bool.{cond_both, cond-true, cond-false}
@@ -8,7 +8,7 @@ use Rattle.bench.specs.Mixed.{Leads, Owned, sweep_all}
 use Rattle.bench.specs.Words.{Kin, one_way, rows_at, spread, wide}
 use Rattle.bench.specs.Direct.{direct_hit}
 use Rattle.bench.specs.Group.{sweep_at}
-use Rattle.bench.specs.Entries.{all_counted, capped, counted, entry_kin}
+use Rattle.bench.specs.Entries.{all_counted, counted, entry_kin}
 use Rattle.bench.specs.Level.{Done, Visited, all_hit, hit_level, level_words, miss_level, visit}
 use Rattle.geometry.specs.Address.{set_of, tag_of}
 use Rattle.bench.specs.Spans.{SpansLevels}

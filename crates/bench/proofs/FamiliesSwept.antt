@@ -1,14 +1,14 @@
 -- The levels of a table, one block size after the other.
-use Rattle.std.proofs.Common.{◌≡◌, ℕ, ◌+◌, ◌-◌, ◌^◌, ◌<◌, ◌≤◌, min, Bool, true, false, cond, List, [], ◌∷◌, ◌++◌, map, length, get_or, take, drop, Option, sym, refl, ap, ◌∙◌, subst, not-suc-le-zero, arith}
+use Rattle.std.proofs.Common.{◌≡◌, ℕ, ◌+◌, ◌^◌, ◌<◌, ◌≤◌, min, true, false, cond, List, [], ◌∷◌, ◌++◌, length, get_or, take, drop, Option, sym, refl, ap, ◌∙◌, subst, not-suc-le-zero, arith}
 use Rattle.std.proofs.lemmas.List.{length-drop, length-map, length-take, length-take-le, take-append-drop}
 use Rattle.std.proofs.lemmas.Bool.{cond-true, cond-false}
 use Rattle.bench.specs.Done.{FamiliesDone, LevelsDone}
 use Rattle.bench.specs.Rows.{Stepped}
 use Rattle.bench.specs.Mixed.{Leads, Owned}
 use Rattle.bench.specs.Entries.{entry_kin}
-use Rattle.bench.specs.Level.{Done, Visited, level_words}
-use Rattle.bench.specs.Spans.{FamiliesFit, FamilySpan, LevelSpan, LevelsFit, SpansFamilies, SpansLevels, levels_lines}
-use Rattle.bench.specs.Sweep.{and_then, families_hit, levels_hit, same_block, skip, sweep_families, sweep_levels, visit_of}
+use Rattle.bench.specs.Level.{Done, Visited}
+use Rattle.bench.specs.Spans.{FamiliesFit, FamilySpan, LevelsFit, SpansFamilies, SpansLevels, levels_lines}
+use Rattle.bench.specs.Sweep.{and_then, families_hit, same_block, skip, sweep_families, sweep_levels}
 use Rattle.bench.specs.Table.{Family, Level, families_words, levels_words}
 use Rattle.bench.specs.declared.entry.Entry.{Entry}
 use Rattle.bench.proofs.DoneParts.{done_skip, done_then, families_true, levels_length}

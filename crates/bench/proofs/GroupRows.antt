@@ -1,14 +1,14 @@
 -- One line more in the sweep of one set of a level.
-use Rattle.std.proofs.Common.{◌≡◌, ℕ, suc, ◌+◌, ◌-◌, ◌*◌, ◌<◌, ◌≤◌, min, Bool, false, List, [], ◌∷◌, ◌++◌, length, get_or, take, drop, set, sym, refl, ap, ◌∙◌, subst, not-suc-le-zero, arith}
+use Rattle.std.proofs.Common.{◌≡◌, ℕ, ◌+◌, ◌-◌, ◌*◌, ◌<◌, ◌≤◌, min, Bool, false, List, [], ◌∷◌, ◌++◌, length, get_or, take, drop, set, sym, refl, ap, ◌∙◌, subst, not-suc-le-zero, arith}
 use borrow.Rule.Slice.PartMut.{put_mid}
-use Rattle.std.proofs.lemmas.List.{drop_all, append-nil, append_assoc, take-take, drop-append-le, take-append-le, length-take-le, length-drop}
+use Rattle.std.proofs.lemmas.List.{drop_all, append-nil, append_assoc, drop-append-le, take-append-le, length-take-le, length-drop}
 use Rattle.standalone.specs.Rows.{row_at, with_row}
 use Rattle.standalone.proofs.Laid.{row_within}
 use Rattle.policy.specs.declared.three.Member.{Member}
-use Rattle.bench.specs.Rows.{Slot, Stepped}
+use Rattle.bench.specs.Rows.{Stepped}
 use Rattle.bench.specs.Mixed.{Leads, Owned, no_leads, with_lead}
 use Rattle.std.proofs.lemmas.Bool.{cond-true, cond-false, le-leb, lt-leb}
-use Rattle.bench.specs.Words.{Kin, one_way, spread, wide, slot_of, words_of, line_words, lines_words, rows_at, with_rows}
+use Rattle.bench.specs.Words.{Kin, one_way, spread, wide, slot_of, words_of, line_words, lines_words, with_rows}
 use Rattle.bench.specs.Entries.{all_counted, counted, capped, entry_kin, kin_of}
 use Rattle.bench.specs.Group.{sweep_at, RowsSwept}
 use Rattle.bench.specs.declared.entry.Entry.{Entry}

@@ -1,15 +1,14 @@
 -- A visit of one level, from what its direct-mapped cache and its rows do.
-use Rattle.std.proofs.Common.{◌≡◌, ℕ, ◌+◌, ◌-◌, ◌*◌, ◌<◌, ◌≤◌, min, true, false, List, [], ◌∷◌, ◌++◌, length, take, drop, set, sym, refl, ap, ◌∙◌, subst, arith}
+use Rattle.std.proofs.Common.{◌≡◌, ℕ, ◌+◌, ◌-◌, ◌*◌, ◌<◌, ◌≤◌, min, true, false, List, ◌++◌, length, take, drop, set, sym, ap, ◌∙◌, subst, arith}
 use borrow.Rule.Slice.PartMut.{put_mid}
 use Rattle.std.proofs.lemmas.List.{append-nil, drop_all, drop-set-lt, length-drop, take_rest}
 use Rattle.std.proofs.lemmas.Bool.{cond-true, cond-false, cond_both}
 use Rattle.bench.specs.Direct.{direct_after, direct_compared, direct_hit, filled}
 use Rattle.bench.specs.Entries.{all_counted, capped, kin_of}
-use Rattle.bench.specs.Group.{RowsSwept, sweep_at}
+use Rattle.bench.specs.Group.{RowsSwept}
 use Rattle.bench.specs.Level.{Done, all_hit, hit_level, miss_level, visit}
 use Rattle.bench.specs.Mixed.{Leads, Owned}
 use Rattle.bench.specs.Rows.{Stepped}
-use Rattle.bench.specs.Words.{spread, wide, with_rows}
 use Rattle.bench.specs.declared.entry.Entry.{Entry}
 use Rattle.bench.proofs.Hits.{all_hit_true, hits_kept}
 

@@ -1,5 +1,5 @@
 -- The levels of one block size, one after the other.
-use Rattle.std.proofs.Common.{◌≡◌, ℕ, ◌+◌, ◌^◌, ◌<◌, ◌≤◌, min, Bool, true, false, cond, List, [], ◌∷◌, ◌++◌, map, length, get_or, take, drop, sym, refl, ap, ◌∙◌, subst, not-suc-le-zero, arith}
+use Rattle.std.proofs.Common.{◌≡◌, ℕ, ◌+◌, ◌^◌, ◌<◌, ◌≤◌, min, true, false, cond, List, [], ◌∷◌, ◌++◌, length, get_or, take, drop, sym, refl, ap, ◌∙◌, subst, not-suc-le-zero, arith}
 use Rattle.std.proofs.lemmas.List.{length-drop, length-map, length-take, length-take-le, take-append-drop}
 use Rattle.std.proofs.lemmas.Bool.{cond-true, cond-false}
 use Rattle.geometry.specs.Address.{set_of, tag_of}
@@ -12,7 +12,6 @@ use Rattle.bench.specs.Level.{Done, Visited, level_words, visit}
 use Rattle.bench.specs.Spans.{LevelSpan, LevelsFit, SpansLevels}
 use Rattle.bench.specs.Sweep.{and_then, levels_hit, skip, sweep_levels, visit_of}
 use Rattle.bench.specs.Table.{Level, levels_words}
-use Rattle.bench.specs.Words.{Kin}
 use Rattle.bench.specs.declared.entry.Entry.{Entry}
 use Rattle.bench.specs.declared.rows.Place.{Place}
 use Rattle.bench.proofs.DoneParts.{done_skip, done_then, levels_true, visit-length}

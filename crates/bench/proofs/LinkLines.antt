@@ -1,18 +1,16 @@
 -- A line put before others that know where their levels end.
-use Rattle.std.proofs.Common.{◌≡◌, ℕ, zero, suc, ◌+◌, ◌-◌, ◌*◌, ◌^◌, ◌<◌, ◌≤◌, Bool, true, false, cond, ◌&&◌, eqb, List, [], ◌∷◌, map, length, get_or, take, drop, set, sym, refl, ap, ◌∙◌, subst, not-suc-le-zero, arith}
+use Rattle.std.proofs.Common.{◌≡◌, ℕ, zero, suc, ◌+◌, ◌-◌, ◌^◌, ◌<◌, ◌≤◌, Bool, true, false, cond, ◌&&◌, eqb, List, [], ◌∷◌, map, length, get_or, take, drop, set, sym, refl, ap, ◌∙◌, subst, not-suc-le-zero, arith}
 use borrow.Rule.Slice.PartMut.{put_mid}
 use Rattle.std.proofs.lemmas.List.{length-take}
 use Rattle.std.proofs.lemmas.Bool.{and_from, and_parts, cond-true, cond-false, eq-eqb, eqb-true}
-use Rattle.geometry.specs.declared.geometry.Geometry.{Geometry}
 use Rattle.bench.specs.Entries.{entry_kin}
 use Rattle.bench.specs.Joins.{Joins, added, joins_family, joins_level, linked, placed, rows, whole}
 use Rattle.bench.specs.Level.{level_words}
-use Rattle.bench.specs.Spans.{FamilySpan, LevelSpan, Linked, SpansFamilies, SpansLevels, config, configs, levels_lines}
-use Rattle.bench.specs.Table.{Config, Family, Level, families, families_words, in_families, in_levels, kin, levels_words, new_family, new_level}
+use Rattle.bench.specs.Spans.{LevelSpan, Linked, SpansFamilies, SpansLevels, config, configs, levels_lines}
+use Rattle.bench.specs.Table.{Family, Level, families, families_words, in_families, in_levels, levels_words, new_family, new_level}
 use Rattle.bench.specs.Words.{row_words}
 use Rattle.bench.proofs.Sizes.{power_eqb, wide_words}
 use Rattle.bench.specs.declared.entry.Entry.{Entry}
-use Rattle.bench.specs.declared.entry.Span.{Span}
 use Rattle.bench.proofs.RowWords.{first_kept}
 use Rattle.bench.proofs.FamiliesSwept.{family_lines, first_family}
 use Rattle.bench.proofs.LevelsSwept.{first_level, level_lines}

@@ -1,5 +1,5 @@
 -- The lines of a table, read one after the other.
-use Rattle.std.proofs.Common.{◌≡◌, ℕ, suc, ◌+◌, ◌^◌, ◌<◌, ◌≤◌, ◌&&◌, leb, List, [], ◌∷◌, ◌++◌, map, length, get_or, take, drop, set, replicate, Some, None, Option, sym, refl, ap, ◌∙◌, subst, arith}
+use Rattle.std.proofs.Common.{◌≡◌, ℕ, suc, ◌+◌, ◌^◌, ◌<◌, ◌≤◌, ◌&&◌, leb, List, [], ◌∷◌, ◌++◌, map, length, get_or, take, drop, set, Some, None, Option, sym, refl, ap, ◌∙◌, arith}
 use Rattle.std.proofs.lemmas.List.{drop_all, drop_more, map-append, take_more, take_more_set}
 use Rattle.std.proofs.lemmas.Bool.{and_from, cond-true, le-leb}
 use Rattle.policy.specs.Three.{Three, which}
@@ -7,7 +7,7 @@ use Rattle.geometry.specs.Line.{GeometryOf, line_questions}
 use Rattle.geometry.specs.Refusal.{ask, first_no}
 use Rattle.geometry.specs.declared.geometry.Geometry.{Geometry}
 use Rattle.geometry.specs.declared.line.Line.{Line}
-use Rattle.bench.specs.Opened.{No, at_line, in_order, lines_refusal, or_else, unless}
+use Rattle.bench.specs.Opened.{at_line, in_order, lines_refusal, or_else, unless}
 use Rattle.bench.specs.Spans.{config, configs}
 use Rattle.bench.specs.Table.{Config, config_of, named}
 use Rattle.bench.specs.declared.entry.Entry.{Entry}

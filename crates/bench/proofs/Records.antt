@@ -1,7 +1,7 @@
 -- The records of lines.
-use Rattle.std.proofs.Common.{◌≡◌, ℕ, ◌+◌, ◌-◌, ◌<◌, ◌≤◌, List, [], ◌∷◌, ◌++◌, map, length, get_or, take, drop, set, sym, refl, ap, ◌∙◌, arith}
+use Rattle.std.proofs.Common.{◌≡◌, ℕ, ◌+◌, ◌-◌, ◌<◌, List, [], ◌∷◌, ◌++◌, map, length, get_or, take, drop, set, sym, refl, ap, ◌∙◌, arith}
 use Rattle.std.specs.List.{AllByRecursion as All}
-use Rattle.std.proofs.lemmas.List.{append_assoc, drop_more, length-map, length-take-le, map_push, set_at, take_at, take_more}
+use Rattle.std.proofs.lemmas.List.{append_assoc, drop_more, length-map, length-take-le, map_push, set_at, take_more}
 use Rattle.standalone.specs.Cache.{Cache}
 use Rattle.standalone.specs.declared.access.Counts.{Counts}
 use Rattle.bench.specs.Suite.{Suite}

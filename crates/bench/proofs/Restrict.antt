@@ -1,11 +1,11 @@
 -- The sweep of all rows does to the rows of each nesting policy what the sweep of those rows alone does.
-use Rattle.std.proofs.Common.{◌≡◌, ℕ, ◌+◌, Bool, true, false, cond, List, [], ◌∷◌, Some, None, Option, sym, refl, ap, ◌∙◌, subst}
+use Rattle.std.proofs.Common.{◌≡◌, ℕ, Bool, true, false, List, [], ◌∷◌, None, Option, sym, refl, ap, ◌∙◌}
 use Rattle.std.proofs.lemmas.Bool.{cond-true, cond-false, true≢false}
 use Rattle.policy.specs.declared.three.Member.{Member}
 use Rattle.policy.specs.declared.three.Member.TheVariants.{First, Second, Further}
 use Rattle.bench.specs.Suite.{Suite, meaning, nesting, nest, same}
-use Rattle.bench.specs.Rows.{Slot, Lead, Stepped, step, step_alone, sweep}
-use Rattle.bench.specs.Mixed.{Owned, Leads, lead_of, with_lead, own_step, SweptAll, sweep_all, rows_of}
+use Rattle.bench.specs.Rows.{Lead, step, step_alone, sweep}
+use Rattle.bench.specs.Mixed.{Owned, Leads, lead_of, with_lead, own_step, sweep_all, rows_of}
 
 pub same_is : (j k : Member) → same j k ≡ true → j ≡ k
 same_is First First e = refl

@@ -1,9 +1,9 @@
 -- Two states with the same parts.
-use Rattle.std.proofs.Common.{◌≡◌, ℕ, ◌≤◌, List, [], ◌∷◌, length, take, replicate, Option, sym, refl, ap, ◌∙◌, arith}
-use Rattle.std.proofs.lemmas.List.{length-map, length-take-le, take-replicate}
+use Rattle.std.proofs.Common.{◌≡◌, ℕ, List, length, Option, ◌∙◌, arith}
+use Rattle.std.proofs.lemmas.List.{length-map, length-take-le}
 use Rattle.bench.specs.Held.{lines_of}
 use Rattle.bench.specs.Spans.{config, configs}
-use Rattle.bench.specs.State.{Bench, State, no_misses}
+use Rattle.bench.specs.State.{Bench}
 use Rattle.bench.specs.Table.{Config}
 use Rattle.bench.specs.declared.table.Table.{Table}
 use Rattle.bench.specs.declared.window.Window.{Window}

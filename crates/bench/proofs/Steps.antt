@@ -1,7 +1,7 @@
 -- The four ways in which a follower goes, and what a sweep leaves of the ways.
-use Rattle.std.proofs.Common.{◌≡◌, ℕ, ◌<◌, ◌≤◌, Bool, true, false, cond, leb, List, [], ◌∷◌, Some, None, Option, sym, refl, ap, ◌∙◌, subst, arith}
+use Rattle.std.proofs.Common.{◌≡◌, ℕ, ◌<◌, ◌≤◌, Bool, true, false, cond, leb, List, [], ◌∷◌, Some, None, Option, sym, refl, ap, ◌∙◌, subst}
 use Rattle.std.specs.List.{AllByRecursion as All}
-use Rattle.std.proofs.lemmas.Bool.{leb-true, leb-false, le-leb, lt-leb}
+use Rattle.std.proofs.lemmas.Bool.{leb-true, leb-false}
 use Rattle.policy.specs.Policy.{Meaning}
 use Rattle.policy.specs.Nesting.{Nest}
 use Rattle.bench.specs.Rows.{Slot, Lead, Stepped, stay, leave, step, step_follower, touch_leader, sweep, leads}

@@ -1,14 +1,13 @@
 -- The sweep at one set keeps its rows beside the standalone rows, hits as they do, and compares no more.
-use Rattle.std.proofs.Common.{◌≡◌, ℕ, ◌+◌, ◌^◌, ◌<◌, ◌≤◌, Bool, true, false, cond, ◌&&◌, leb, List, [], ◌∷◌, length, take, Some, None, Option, sym, refl, ap, ◌∙◌, subst, arith}
+use Rattle.std.proofs.Common.{◌≡◌, ℕ, ◌+◌, ◌^◌, ◌<◌, ◌≤◌, Bool, true, false, ◌&&◌, leb, List, [], ◌∷◌, take, Some, None, Option, sym, refl, ap, ◌∙◌, subst, arith}
 use Rattle.std.specs.List.{AllByRecursion as All}
-use Rattle.std.proofs.ByRecursion.{All-weaker}
 use Rattle.std.proofs.lemmas.List.{take-take}
 use Rattle.std.proofs.lemmas.Bool.{true≢false, and_left, and_right, and_from, le-leb, lt-leb, leb-true, leb-false, cond-true, cond-false}
-use Rattle.policy.specs.Search.{member, place}
+use Rattle.policy.specs.Search.{place}
 use Rattle.policy.specs.Policy.{Meaning, Laws}
 use Rattle.policy.specs.Nesting.{Nest, Nests, Nested, First}
 use Rattle.bench.specs.Rows.{Slot, Lead, Stepped, stay, leave, step, step_follower, touch_leader, sweep, leads}
-use Rattle.bench.specs.Beside.{leader, Leading, Follows, Beside, AllBeside, rows_touched, rows_hit, rows_compared}
+use Rattle.bench.specs.Beside.{leader, Beside, AllBeside, rows_touched, rows_hit, rows_compared}
 use Rattle.bench.proofs.Alike.{alike_hit, alike_comparisons, alike_residents}
 use Rattle.bench.proofs.Steps.{Goes, misses, hits, nests, leaves, goes, step-leads, step_follows, rising_kept}
 

@@ -1,5 +1,5 @@
 -- A bench and its workspace beside the reference model.
-use Rattle.std.specs.Prelude.{◌≡◌, ℕ, ◌<◌, ◌≤◌, List, map, length, None, slice_index}
+use Rattle.std.specs.Prelude.{◌≡◌, ℕ, ◌<◌, ◌≤◌, map, length, None, slice_index}
 use Rattle.std.specs.List.{AllByRecursion as All}
 use Rattle.bench.specs.Suite.{Suite}
 use Rattle.bench.specs.Calls.{Model}

@@ -1,7 +1,7 @@
 -- Swept rows beside the rows of the standalone caches, in one set.
 use Rattle.std.specs.Prelude.{◌≡◌, ℕ, ◌+◌, ◌≤◌, Bool, true, false, cond, List, [], ◌∷◌, map, take, Some, None, Option}
 use Rattle.std.specs.List.{AllByRecursion as All}
-use Rattle.policy.specs.Policy.{Meaning, Touched}
+use Rattle.policy.specs.Policy.{Meaning}
 use Rattle.bench.specs.Rows.{Slot, leads}
 
 -- the narrowest row that leads

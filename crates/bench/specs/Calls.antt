@@ -1,5 +1,5 @@
 -- The calls of a bench, and what each means in the reference model.
-use Rattle.std.specs.Prelude.{ℕ, ◌+◌, Bool, true, false, cond, List, [], ◌∷◌, map, set, replicate, Some, None, Option, slice_set}
+use Rattle.std.specs.Prelude.{ℕ, ◌+◌, cond, List, [], ◌∷◌, map, replicate, Some, None, Option, slice_set}
 use Rattle.geometry.specs.declared.line.Line.{Line}
 use Rattle.standalone.specs.declared.access.Access.{Access}
 use Rattle.bench.specs.Asked.{access_refusal, flush_refusal, frame_refusal, off_refusal, window_refusal}

@@ -1,5 +1,5 @@
 -- The direct-mapped cache of a level: 2 words a set, filled and tag, by rising set.
-use Rattle.std.specs.Prelude.{ℕ, ◌+◌, ◌*◌, Bool, cond, not, ◌&&◌, List, set, ◌==◌, slice_index, slice_set}
+use Rattle.std.specs.Prelude.{ℕ, ◌+◌, ◌*◌, Bool, cond, not, ◌&&◌, List, ◌==◌, slice_index, slice_set}
 
 -- whether set i is filled
 abbrev pub filled : List ℕ → ℕ → Bool

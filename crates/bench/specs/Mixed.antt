@@ -1,5 +1,5 @@
 -- The sweep at one set of a level: the rows of all its wider lines, by letter and then by ways.
-use Rattle.std.specs.Prelude.{ℕ, ◌+◌, Bool, true, false, cond, List, [], ◌∷◌, Some, None, Option}
+use Rattle.std.specs.Prelude.{ℕ, ◌+◌, Bool, cond, List, [], ◌∷◌, None, Option}
 use Rattle.policy.specs.declared.three.Member.{Member}
 use Rattle.policy.specs.declared.three.Member.TheVariants.{First, Second, Further}
 use Rattle.bench.specs.Suite.{Suite, meaning, nesting, nest, same}

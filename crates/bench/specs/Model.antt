@@ -1,8 +1,7 @@
 -- The reference model: what a bench means. Every line has a standalone cache, every level a direct-mapped one, and each
 -- cached access touches them all.
-use Rattle.std.specs.Prelude.{◌≡◌, ℕ, ◌+◌, Bool, true, false, cond, List, [], ◌∷◌, ◌++◌, map, set, replicate, Some, None, Option, slice_index_or, slice_set}
+use Rattle.std.specs.Prelude.{ℕ, ◌+◌, Bool, true, false, cond, List, [], ◌∷◌, ◌++◌, map, replicate, Some, None, Option, slice_index_or, slice_set}
 use Rattle.geometry.specs.Address.{set_of, tag_of}
-use Rattle.geometry.specs.declared.line.Line.{Line}
 use Rattle.standalone.specs.Cache.{Cache, accessed, new_cache}
 use Rattle.standalone.specs.declared.access.Access.{Access}
 use Rattle.bench.specs.Suite.{Suite, meaning}

@@ -1,5 +1,5 @@
 -- What an open asks of a table.
-use Rattle.std.specs.Prelude.{◌≡◌, ℕ, suc, Bool, true, cond, ◌&&◌, ◌||◌, List, [], ◌∷◌, ◌++◌, map, length, Some, None, Option, ◌==◌, nat_le, nat_lt}
+use Rattle.std.specs.Prelude.{ℕ, suc, Bool, true, cond, ◌&&◌, ◌||◌, List, [], ◌∷◌, ◌++◌, map, length, Some, None, Option, ◌==◌, nat_le, nat_lt}
 use Rattle.policy.specs.Three.{Three}
 use Rattle.geometry.specs.Refusal.{ask, first_no}
 use Rattle.geometry.specs.Line.{line_questions}

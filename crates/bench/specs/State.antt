@@ -1,5 +1,5 @@
 -- What a bench holds, and what the sweep makes of each call.
-use Rattle.std.specs.Prelude.{ℕ, ◌+◌, min, Bool, true, false, cond, List, [], ◌∷◌, ◌++◌, map, length, drop, replicate, Some, None, Option, slice_set}
+use Rattle.std.specs.Prelude.{ℕ, ◌+◌, min, false, cond, List, [], ◌∷◌, ◌++◌, map, length, drop, replicate, Some, None, Option, slice_set}
 use Rattle.standalone.specs.declared.access.Access.{Access}
 use Rattle.geometry.specs.declared.line.Line.{Line}
 use Rattle.bench.specs.Asked.{access_refusal, flush_refusal, frame_refusal, off_refusal, window_refusal}

@@ -1,5 +1,5 @@
 -- The sweep over a table: levels by rising block size, then by rising sets.
-use Rattle.std.specs.Prelude.{ℕ, ◌+◌, Bool, true, false, cond, List, [], ◌∷◌, ◌++◌, map, take, drop, Some, None, Option, ◌==◌}
+use Rattle.std.specs.Prelude.{ℕ, ◌+◌, Bool, false, cond, List, [], ◌∷◌, ◌++◌, take, drop, Some, None, Option, ◌==◌}
 use Rattle.geometry.specs.Address.{block_of, set_of, tag_of}
 use Rattle.bench.specs.Direct.{direct_hit}
 use Rattle.bench.specs.Rows.{Stepped}

@@ -1,12 +1,12 @@
 -- What one pass is worth, over any list of calls.
-use Rattle.std.specs.Prelude.{◌≡◌, ℕ, ◌/◌, ◌≤◌, true, List, [], ◌∷◌, ◌++◌, length, None}
+use Rattle.std.specs.Prelude.{◌≡◌, ℕ, ◌/◌, ◌≤◌, true, List, ◌∷◌, ◌++◌, length, None}
 use Rattle.std.specs.List.{AllByRecursion as All}
 use Rattle.standalone.specs.Counting.{one_more}
 use Rattle.standalone.specs.declared.access.Access.{Access}
 use Rattle.bench.specs.Suite.{Suite}
-use Rattle.bench.specs.Calls.{Do, Model, access, model_answers, model_refusal, model_run, new_model}
+use Rattle.bench.specs.Calls.{Do, access, model_answers, model_refusal, model_run, new_model}
 use Rattle.bench.specs.Kept.{Holds}
-use Rattle.bench.specs.Model.{FamilyModel, LevelModel, LineModel, touch_line}
+use Rattle.bench.specs.Model.{FamilyModel, LineModel, touch_line}
 use Rattle.bench.specs.State.{bench_answers, bench_run, new_bench}
 use Rattle.bench.specs.BenchTracks.{BenchTracks}
 use Rattle.bench.specs.Window.{cached}

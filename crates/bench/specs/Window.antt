@@ -1,5 +1,5 @@
 -- The windows: eight, each off or on with a first address and an end.
-use Rattle.std.specs.Prelude.{ℕ, ◌^◌, Bool, true, false, ◌&&◌, ◌||◌, List, [], ◌∷◌, replicate, nat_le, nat_lt}
+use Rattle.std.specs.Prelude.{ℕ, Bool, true, false, ◌&&◌, ◌||◌, List, [], ◌∷◌, replicate, nat_le, nat_lt}
 use Rattle.bench.specs.declared.window.Window.{Window}
 
 -- a window that is on holds first up to the address before end

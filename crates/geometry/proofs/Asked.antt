@@ -1,5 +1,5 @@
 -- The first "no" among questions, one after the other and list after list.
-use Rattle.std.proofs.Common.{◌≡◌, ℕ, Bool, true, false, cond, List, [], ◌∷◌, ◌++◌, Some, None, Option, sym, refl, ap, ◌∙◌, arith}
+use Rattle.std.proofs.Common.{◌≡◌, ℕ, Bool, true, false, cond, List, [], ◌∷◌, ◌++◌, Some, None, sym, refl, ap, ◌∙◌, arith}
 use Rattle.geometry.specs.Refusal.{Question, ask, first_no}
 
 -- a question that passes, and one that does not

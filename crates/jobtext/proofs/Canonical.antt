@@ -1,12 +1,12 @@
 -- A table line has one text: what is written of its line.
-use Rattle.std.proofs.Common.{◌≡◌, ℕ, suc, ◌+◌, ◌<◌, ◌≤◌, Bool, true, false, cond, not, ◌&&◌, eqb, leb, ◌⊎◌, List, [], ◌∷◌, ◌++◌, length, get_or, take, drop, Some, None, Ok, Err, decimal, Option, Result, sym, refl, ap, ◌∙◌, inl, inr, ⊎_elim, arith}
+use Rattle.std.proofs.Common.{◌≡◌, ℕ, ◌+◌, ◌<◌, Bool, true, cond, ◌&&◌, eqb, leb, List, [], ◌∷◌, ◌++◌, length, get_or, take, Some, None, Ok, Err, decimal, Option, Result, sym, refl, ap, ◌∙◌, ⊎_elim, arith}
 use Rattle.std.proofs.lemmas.List.{append_assoc, get_or-take, length-take, take_more}
-use Rattle.std.proofs.lemmas.Bool.{and_parts, cases_Bool, eq-eqb, eqb-false, eqb-true, leb-true, ltb-true, ne_eqb, not_from_true}
+use Rattle.std.proofs.lemmas.Bool.{and_parts, cases_Bool, eqb-false, eqb-true, ltb-true}
 use Rattle.geometry.specs.declared.line.Line.{Line}
 use Rattle.jobtext.specs.declared.record.LineKind.TheVariants as kind
 use Rattle.jobtext.specs.declared.record.AccessKind.TheVariants.{Fetch, Read, Store}
 use Rattle.jobtext.specs.Numbers.{every, is_decimal}
-use Rattle.jobtext.specs.Fields.{before, fields, first_line, has_feed, line_end, put}
+use Rattle.jobtext.specs.Fields.{fields, first_line, has_feed, line_end, put}
 use Rattle.jobtext.specs.Entries.{Entry, table, opened, access, window, off, frame, flush, zeroed, comment}
 use Rattle.jobtext.specs.Forms.{Form, access_form, all_formed, answered, bare_form, by_fields, by_form, by_known, form_of, is_letter, nth, off_form, placed, printable, run_form_of, read_comment, read_record, read_text, table_form, window_form}
 use Rattle.jobtext.specs.Job.{kind_of, table_line}

@@ -1,12 +1,12 @@
 -- What the questions of a form answer.
-use Rattle.std.proofs.Common.{◌≡◌, ℕ, ◌-◌, ◌<◌, ◌≤◌, Bool, true, false, cond, ◌&&◌, eqb, leb, List, [], ◌∷◌, length, get_or, take, drop, Some, None, Ok, Err, Option, Result, sym, refl, ap, ◌∙◌, ⊎_elim, arith}
+use Rattle.std.proofs.Common.{◌≡◌, ℕ, ◌-◌, ◌<◌, ◌≤◌, Bool, true, false, cond, ◌&&◌, eqb, leb, List, [], ◌∷◌, length, get_or, take, drop, Some, None, Ok, Err, Option, sym, refl, ap, ◌∙◌, ⊎_elim, arith}
 use Rattle.std.proofs.lemmas.List.{take_rest}
 use Rattle.std.proofs.lemmas.Bool.{and_from, le-leb, eq-eqb, ne_eqb, eqb-true, leb-true, and_left, and_parts, cases_Bool}
 use Rattle.jobtext.specs.Numbers.{is_decimal, is_address}
 use Rattle.jobtext.specs.Fields.{fields, put}
 use Rattle.jobtext.specs.Entries.{Entry, opened, frame, flush, zeroed, table, window}
-use Rattle.jobtext.specs.Forms.{Form, all_formed, answered, bare_form, by_form, by_known, form_of, is_letter, table_form, well_formed, window_form}
-use Rattle.jobtext.proofs.Places.{fields_at_comma, fields_at_other, fields_one, fields_some, put_some}
+use Rattle.jobtext.specs.Forms.{Form, all_formed, answered, bare_form, by_form, by_known, form_of, is_letter, table_form, window_form}
+use Rattle.jobtext.proofs.Places.{fields_at_comma, fields_at_other, fields_one, fields_some}
 
 module _ (form : Form) (fs : List (List ℕ)) where
   pub form_count : (length fs ≡ length form.sorts → ⊥) → Err 2 ≡ by_form form fs

@@ -1,5 +1,5 @@
 -- What is written of a line of the table is read as that line.
-use Rattle.std.proofs.Common.{◌≡◌, ℕ, zero, suc, ◌+◌, ◌^◌, ◌<◌, ◌≤◌, Bool, true, false, cond, not, ◌&&◌, eqb, ltb, leb, List, [], ◌∷◌, ◌++◌, length, get_or, take, drop, Ok, Err, decimal, Result, sym, refl, ap, ◌∙◌, subst, ⊎_elim, arith}
+use Rattle.std.proofs.Common.{◌≡◌, ℕ, zero, suc, ◌+◌, ◌^◌, ◌<◌, ◌≤◌, Bool, true, false, cond, not, ◌&&◌, eqb, leb, List, [], ◌∷◌, ◌++◌, length, take, Ok, Err, decimal, sym, refl, ap, ◌∙◌, ⊎_elim, arith}
 use Rattle.std.proofs.lemmas.List.{append_assoc, append-nil, length-append, length_push, length-take, take_at}
 use Rattle.std.proofs.lemmas.Bool.{and_from, and_parts, cases_Bool, le-leb, leb-true, lt-ltb, ne_eqb, not_from_false, not-true}
 use Rattle.geometry.specs.declared.line.Line.{Line}
@@ -8,8 +8,7 @@ use Rattle.jobtext.specs.declared.record.LineKind.TheVariants as kind
 use Rattle.jobtext.specs.Numbers.{digits_value, every, is_decimal, is_digit}
 use Rattle.jobtext.specs.Fields.{before, fields, first_line, has_feed, line_end, put}
 use Rattle.jobtext.specs.Entries.{Entry, table}
-use Rattle.jobtext.specs.Forms.{by_fields, by_form, placed, read_record, read_text, table_form}
-use Rattle.jobtext.specs.Job.{table_line}
+use Rattle.jobtext.specs.Forms.{by_fields, placed, read_record, read_text, table_form}
 use Rattle.jobtext.specs.Round.{ReadsAs}
 use Rattle.jobtext.specs.Written.{line_text}
 use Rattle.jobtext.proofs.Canonical.{bytes_feed, table-bytes, table-fields}

@@ -1,10 +1,9 @@
 -- Digits, one after the other.
-use Rattle.std.proofs.Common.{◌≡◌, ℕ, ◌+◌, ◌*◌, ◌/◌, ◌%◌, ◌^◌, ◌<◌, ◌≤◌, Bool, true, false, ◌&&◌, List, [], ◌∷◌, ◌++◌, map, length, get_or, take, drop, sym, refl, ap, ◌∙◌, add-mul, mul_right_comm}
+use Rattle.std.proofs.Common.{◌≡◌, ℕ, ◌+◌, ◌*◌, ◌/◌, ◌%◌, ◌^◌, ◌<◌, ◌≤◌, Bool, true, false, ◌&&◌, List, map, length, get_or, take, drop, sym, ap, ◌∙◌, add-mul, mul_right_comm}
 use native.Mathlib.Nat.{mod-add-div', add-mul-mod_self_right, mod-add-mod}
 use Rattle.std.specs.Int.Digits.{number_from_digits}
 use Rattle.std.proofs.lemmas.Int.Digits.{number_push}
 use Rattle.std.proofs.lemmas.List.{map_more, drop_more, drop_all}
-use Rattle.std.proofs.lemmas.Bool.{and_left}
 use Rattle.jobtext.specs.Numbers.{digit_value, digits_value, every}
 
 mod_mul_left : (n r m : ℕ) → (n % m * r) % m ≡ (n * r) % m

@@ -1,5 +1,5 @@
 -- Numbers as a line has them.
-use Rattle.std.specs.Prelude.{ℕ, ◌-◌, ◌%◌, ◌^◌, Bool, true, false, cond, not, ◌&&◌, ◌||◌, List, [], ◌∷◌, map, length, ◌==◌, nat_le, nat_lt, slice_index}
+use Rattle.std.specs.Prelude.{ℕ, ◌-◌, ◌%◌, ◌^◌, Bool, true, cond, not, ◌&&◌, ◌||◌, List, [], ◌∷◌, map, length, ◌==◌, nat_le, nat_lt, slice_index}
 use Rattle.std.specs.Int.Digits.{number_from_digits}
 use Rattle.jobtext.specs.declared.numeral.Base.{Base}
 use Rattle.jobtext.specs.declared.numeral.Base.TheVariants.{Ten, Sixteen}

@@ -1,6 +1,6 @@
 -- Tree PLRU: a complete binary tree whose inner nodes hold flags and whose leaves are the ways, and the words of a row.
 -- Node 1 is the root, and node k has the children 2k (left) and 2k + 1 (right). A flag 0 points left, 1 right.
-use Rattle.std.specs.Prelude.{◌≡◌, ℕ, zero, suc, ◌+◌, ◌-◌, ◌*◌, ◌/◌, ◌%◌, ◌^◌, ◌<◌, ◌≤◌, Bool, true, false, cond, ◌||◌, List, [], ◌∷◌, ◌++◌, map, length, replicate, Some, None, Option, ◌==◌, nat_lt, slice_index, slice_set}
+use Rattle.std.specs.Prelude.{◌≡◌, ℕ, zero, suc, ◌+◌, ◌-◌, ◌*◌, ◌/◌, ◌%◌, ◌^◌, ◌<◌, ◌≤◌, Bool, false, cond, ◌||◌, List, [], ◌∷◌, ◌++◌, map, length, replicate, Some, None, Option, ◌==◌, nat_lt, slice_index, slice_set}
 use Rattle.std.specs.List.{range_with_len, AllByRecursion as All}
 use Rattle.policy.specs.Search.{member, place, Distinct}
 use Rattle.policy.specs.Policy.{Meaning, Touched}

@@ -1,5 +1,5 @@
 -- What a replacement policy means, and the laws that every policy keeps.
-use Rattle.std.specs.Prelude.{◌≡◌, ℕ, ◌+◌, ◌^◌, ◌<◌, ◌≤◌, Bool, true, false, List, [], length, ◌≢◌}
+use Rattle.std.specs.Prelude.{◌≡◌, ℕ, ◌+◌, ◌^◌, ◌<◌, ◌≤◌, Bool, true, List, [], length, ◌≢◌}
 use Rattle.std.specs.List.{AllByRecursion as All}
 use Rattle.policy.specs.Search.{member, place, Distinct}
 

@@ -1,5 +1,5 @@
 -- A search through the residents of a row, from the first on.
-use Rattle.std.specs.Prelude.{◌≡◌, ℕ, suc, Bool, true, false, cond, ◌||◌, List, [], ◌∷◌, ◌==◌}
+use Rattle.std.specs.Prelude.{◌≡◌, ℕ, suc, Bool, false, cond, ◌||◌, List, [], ◌∷◌, ◌==◌}
 
 -- whether a tag is resident
 abbrev pub member : ℕ → List ℕ → Bool

@@ -1,5 +1,5 @@
 -- FIFO and LRU: what each does to the list of residents, and the words of a row.
-use Rattle.std.specs.Prelude.{◌≡◌, ℕ, suc, ◌+◌, ◌-◌, ◌^◌, ◌<◌, ◌≤◌, min, Bool, true, false, cond, ◌&&◌, List, [], ◌∷◌, ◌++◌, length, take, drop, replicate, ◌==◌, nat_le}
+use Rattle.std.specs.Prelude.{◌≡◌, ℕ, ◌-◌, ◌^◌, ◌<◌, ◌≤◌, min, Bool, true, false, cond, ◌&&◌, List, [], ◌∷◌, ◌++◌, length, take, drop, replicate, ◌==◌, nat_le}
 use Rattle.std.specs.List.{AllByRecursion as All}
 use Rattle.policy.specs.Search.{member, place, Distinct}
 use Rattle.policy.specs.Policy.{Meaning, Touched}

@@ -1,5 +1,5 @@
 -- The laws of a policy on the list of residents, by rows that are laid out.
-use Rattle.std.specs.Prelude.{◌≡◌, ℕ, zero, suc, ◌+◌, ◌-◌, ◌^◌, ◌<◌, ◌≤◌, min, Bool, true, false, cond, ◌&&◌, List, [], ◌∷◌, ◌++◌, length, take, drop, replicate, nat_le, slice_set, refl}
+use Rattle.std.specs.Prelude.{◌≡◌, ℕ, zero, suc, ◌+◌, ◌-◌, ◌^◌, ◌<◌, ◌≤◌, min, Bool, true, false, List, [], ◌∷◌, ◌++◌, length, take, drop, replicate, nat_le, slice_set, refl}
 use Rattle.std.proofs.Common.{sym, ap, ◌∙◌, subst, add-one, arith, ⊎_elim}
 use borrow.Rule.Slice.PartMut.{put_mid}
 use Rattle.std.specs.List.{AllByRecursion as All}
@@ -7,11 +7,11 @@ use Rattle.std.proofs.lemmas.List.{take_at, drop_at, drop-drop, drop-replicate, 
 use Rattle.std.proofs.ByRecursion.{All-append, All-take}
 use Rattle.std.proofs.lemmas.Bool.{and_parts, leb-true, cases_lt}
 use Rattle.policy.specs.Search.{member, place, Distinct}
-use Rattle.policy.specs.Policy.{Meaning, Laws, Touched}
-use Rattle.policy.specs.Nesting.{Nest, Nests, Nested, First}
-use Rattle.policy.specs.Stack.{layout, residents_of, ways_of, relaid, touch_by, truncate_of, touched_row, Stacked, one_to_sixteen, stack_meaning, OnLayout}
+use Rattle.policy.specs.Policy.{Laws, Touched}
+use Rattle.policy.specs.Nesting.{Nests, Nested}
+use Rattle.policy.specs.Stack.{fifo, fifo_meaning, fifo_nest, lru, lru_meaning, lru_nest, layout, residents_of, ways_of, relaid, touch_by, truncate_of, touched_row, Stacked, one_to_sixteen, stack_meaning, OnLayout}
 use Rattle.policy.specs.SearchLemmas.{all_replicate, distinct_take, member_take_absent, member_take_within, member_take_beyond}
-use Rattle.policy.specs.ListPolicy.{ListPolicy, Keeps, Narrows}
+use Rattle.policy.specs.ListPolicy.{ListPolicy, Keeps, Narrows, fifo_keeps, fifo_narrows, lru_keeps, lru_narrows}
 use Rattle.policy.specs.StackRow.{residents_part}
 
 pub ways_bounds : (a : ℕ) → one_to_sixteen a ≡ true → (1 ≤ a) × (a ≤ 16)
@@ -207,3 +207,17 @@ module _ (letter : ℕ) (P : ListPolicy) (K : Keeps P) (keeps : Bool) (V : Narro
       ap residents_of (truncate_laid n W) ∙ residents_laid n (take n (residents_of W)),
     );
   }
+
+-- FIFO and LRU keep the laws of a policy, and those of nesting
+
+pub fifo_lawful : Laws fifo_meaning
+fifo_lawful = stack_laws 70 fifo fifo_keeps (omega arith) (omega arith)
+
+pub fifo_nests : Nests fifo_meaning fifo_nest
+fifo_nests = stack_nests 70 fifo fifo_keeps false fifo_narrows
+
+pub lru_lawful : Laws lru_meaning
+lru_lawful = stack_laws 76 lru lru_keeps (omega arith) (omega arith)
+
+pub lru_nests : Nests lru_meaning lru_nest
+lru_nests = stack_nests 76 lru lru_keeps true lru_narrows

@@ -1,7 +1,7 @@
 -- The residents of a row of FIFO or LRU among its words.
-use Rattle.std.specs.Prelude.{◌≡◌, ℕ, zero, suc, ◌+◌, ◌-◌, ◌<◌, ◌≤◌, min, true, false, cond, List, [], ◌∷◌, ◌++◌, length, take, drop, slice_index, refl}
+use Rattle.std.specs.Prelude.{◌≡◌, ℕ, zero, suc, ◌+◌, ◌-◌, ◌<◌, ◌≤◌, min, false, List, [], ◌∷◌, ◌++◌, length, take, drop, slice_index, refl}
 use Rattle.std.proofs.Common.{sym, ap, ◌∙◌, ⊎_elim, not-suc-le-zero, arith}
-use Rattle.std.proofs.lemmas.List.{length-take, take-take, take_all, drop_all, take-append-drop, length-take-le}
+use Rattle.std.proofs.lemmas.List.{length-take, take-take, take_all, length-take-le}
 use Rattle.std.proofs.lemmas.Bool.{cases_lt, cond-false}
 use Rattle.policy.specs.Search.{member}
 use Rattle.policy.specs.Stack.{residents_of, ways_of, relaid, fifo, touched_row}

@@ -1,9 +1,6 @@
 // First in, first out.
-ghost use Rattle.policy.specs.Stack.{fifo_meaning, fifo_nest, fifo};
-ghost use Rattle.std.proofs.Common.{arith};
-ghost use Rattle.policy.specs.ListPolicy.{fifo_keeps, fifo_narrows};
-ghost use Rattle.policy.specs.StackLaws.{stack_laws, stack_nests};
-ghost use Rattle.std.proofs.Math.Bool;
+ghost use Rattle.policy.specs.Stack.{fifo_meaning, fifo_nest};
+ghost use Rattle.policy.specs.StackLaws.{fifo_lawful, fifo_nests};
 
 use crate::stack::{admit, copy_first, find, keep, residents};
 use crate::traits::{Nesting, Policy};
@@ -15,7 +12,7 @@ pub struct Fifo;
 impl Policy for Fifo {
     ghost meaning = { fifo_meaning };
 
-    ghost lawful = { stack_laws 70 fifo fifo_keeps (omega arith) (omega arith) };
+    ghost lawful = { fifo_lawful };
 
     fn letter(&self) -> u8 {
         b'F'
@@ -43,7 +40,7 @@ impl Policy for Fifo {
 impl Nesting for Fifo {
     ghost nest = { fifo_nest };
 
-    ghost nests = { stack_nests 70 fifo fifo_keeps Bool.false fifo_narrows };
+    ghost nests = { fifo_nests };
 
     fn keeps_nesting(&self) -> bool {
         false

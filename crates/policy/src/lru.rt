@@ -1,9 +1,6 @@
 // Least recently used.
-ghost use Rattle.policy.specs.Stack.{lru_meaning, lru_nest, lru};
-ghost use Rattle.std.proofs.Common.{arith};
-ghost use Rattle.policy.specs.ListPolicy.{lru_keeps, lru_narrows};
-ghost use Rattle.policy.specs.StackLaws.{stack_laws, stack_nests};
-ghost use Rattle.std.proofs.Math.Bool;
+ghost use Rattle.policy.specs.Stack.{lru_meaning, lru_nest};
+ghost use Rattle.policy.specs.StackLaws.{lru_lawful, lru_nests};
 
 use crate::stack::{admit, copy_first, find, promote, residents};
 use crate::traits::{Nesting, Policy};
@@ -15,7 +12,7 @@ pub struct Lru;
 impl Policy for Lru {
     ghost meaning = { lru_meaning };
 
-    ghost lawful = { stack_laws 76 lru lru_keeps (omega arith) (omega arith) };
+    ghost lawful = { lru_lawful };
 
     fn letter(&self) -> u8 {
         b'L'
@@ -43,7 +40,7 @@ impl Policy for Lru {
 impl Nesting for Lru {
     ghost nest = { lru_nest };
 
-    ghost nests = { stack_nests 76 lru lru_keeps Bool.true lru_narrows };
+    ghost nests = { lru_nests };
 
     fn keeps_nesting(&self) -> bool {
         true

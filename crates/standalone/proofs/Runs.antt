@@ -1,5 +1,5 @@
 -- A run by the line's numbers and by its geometry, and the memory that it starts from.
-use Rattle.std.proofs.Common.{◌≡◌, ℕ, ◌+◌, ◌*◌, ◌^◌, ◌<◌, ◌≤◌, true, List, [], ◌∷◌, ◌++◌, length, drop, replicate, Some, None, sym, refl, ap, ◌∙◌, subst, arith}
+use Rattle.std.proofs.Common.{◌≡◌, ℕ, ◌+◌, ◌*◌, ◌^◌, true, List, ◌++◌, length, drop, replicate, Some, sym, ap, ◌∙◌}
 use Rattle.std.proofs.lemmas.List.{drop_at, length-replicate}
 use Rattle.policy.specs.Policy.{Meaning, Laws}
 use Rattle.policy.specs.Three.{Three, policy_of, which}

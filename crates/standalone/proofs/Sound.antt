@@ -1,12 +1,11 @@
 -- What holds of a cache at every access, under the laws of its policy.
-use Rattle.std.proofs.Common.{◌≡◌, ℕ, zero, suc, ◌+◌, ◌*◌, ◌/◌, ◌%◌, ◌^◌, ◌<◌, ◌≤◌, Bool, true, false, cond, List, [], ◌∷◌, ◌++◌, length, get_or, take, drop, set, replicate, sym, refl, ap, ◌∙◌, subst, ⊎_elim, div-le_self, arith}
+use Rattle.std.proofs.Common.{◌≡◌, ℕ, zero, suc, ◌+◌, ◌*◌, ◌^◌, ◌<◌, ◌≤◌, true, List, [], ◌∷◌, ◌++◌, length, get_or, take, sym, refl, ap, ◌∙◌, subst, ⊎_elim, div-le_self, arith}
 use Rattle.std.specs.List.{AllByRecursion as All}
 use Rattle.std.proofs.lemmas.Nat.{mod_below}
-use Rattle.std.proofs.ByRecursion.{All-get_or, All-set, All-take, All-weaker}
+use Rattle.std.proofs.ByRecursion.{All-get_or, All-set, All-take}
 use Rattle.std.proofs.lemmas.List.{length-set, length-replicate, length-take-le, get_or-set_same, get_or-set_other, set_past, take_more}
 use Rattle.std.proofs.lemmas.Bool.{cond_both, cases_eq, cases_lt}
-use Rattle.policy.specs.Policy.{Meaning, Laws, Touched}
-use Rattle.policy.specs.Search.{place}
+use Rattle.policy.specs.Policy.{Meaning, Laws}
 use Rattle.policy.specs.SearchLemmas.{place_le, all_replicate}
 use Rattle.geometry.specs.Address.{set_of, tag_of, block_of}
 use Rattle.standalone.specs.Allowed.{Allowed}

@@ -1,18 +1,18 @@
 -- One access more of a run.
-use Rattle.std.proofs.Common.{◌≡◌, ℕ, suc, ◌+◌, ◌*◌, ◌^◌, ◌<◌, ◌≤◌, Bool, true, cond, List, [], ◌∷◌, ◌++◌, length, get_or, take, drop, sym, refl, ap, ◌∙◌, subst, arith}
+use Rattle.std.proofs.Common.{◌≡◌, ℕ, ◌+◌, ◌^◌, ◌<◌, ◌≤◌, Bool, true, cond, List, [], ◌++◌, length, get_or, take, sym, ap, ◌∙◌, subst, arith}
 use Rattle.std.specs.List.{AllByRecursion as All}
 use Rattle.std.proofs.ByRecursion.{All-get_or, All-weaker}
-use Rattle.policy.specs.Policy.{Meaning, Laws, Touched}
+use Rattle.policy.specs.Policy.{Meaning, Laws}
 use Rattle.geometry.specs.Address.{set_of, tag_of}
 use Rattle.standalone.specs.Allowed.{Allowed}
 use Rattle.standalone.specs.Counting.{one_more}
-use Rattle.standalone.specs.Cache.{Cache, new_cache, accessed, touch_of, run}
+use Rattle.standalone.specs.Cache.{new_cache, accessed, touch_of, run}
 use Rattle.standalone.specs.Rows.{laid, row_at, with_row}
 use Rattle.standalone.specs.Run.{Tracks}
 use Rattle.standalone.specs.declared.access.Access.{Access}
 use Rattle.standalone.specs.declared.access.Counts.{Counts}
 use Rattle.standalone.proofs.Laid.{row_laid, with_row_laid}
-use Rattle.standalone.proofs.Sound.{Sound, sound_at, set_below, tag_fits, comparisons_few, run_more}
+use Rattle.standalone.proofs.Sound.{Sound, sound_at, set_below, comparisons_few, run_more}
 
 -- a run that has come to access i
 pub record Going (m : Meaning) (b s a : ℕ) (xs : List Access) (i : ℕ) (rest memory : List ℕ) (counts : Counts) (comparisons : ℕ) : Type 0 where

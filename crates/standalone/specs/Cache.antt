@@ -1,5 +1,5 @@
 -- A set-associative cache: a row for each set, all started; each access touches its tag in the row of its set.
-use Rattle.std.specs.Prelude.{ℕ, ◌+◌, cond, List, [], ◌∷◌, set, replicate, slice_index_or, slice_set}
+use Rattle.std.specs.Prelude.{ℕ, ◌+◌, cond, List, [], ◌∷◌, replicate, slice_index_or, slice_set}
 use Rattle.policy.specs.Policy.{Meaning, Touched}
 use Rattle.geometry.specs.Address.{set_of, tag_of}
 use Rattle.standalone.specs.Counting.{one_more}

@@ -1,4 +1,4 @@
-use Rattle.std.proofs.Common.{◌≡◌, ◌<◌, min, ◌++◌, map, length, take, drop, sym, ap, ◌∙◌, subst, arith}
+use Rattle.std.proofs.Common.{◌≡◌, ◌<◌, min, ◌++◌, map, length, drop, ap, ◌∙◌, arith}
 use Rattle.policy.specs.Three.{three}
 use Rattle.bench.specs.Held.{bench_of}
 use Rattle.bench.specs.Spoken.{answer_of, do_of, spoken}

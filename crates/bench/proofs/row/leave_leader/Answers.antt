@@ -1,4 +1,4 @@
-use Rattle.std.proofs.Common.{◌≡◌, ℕ, ◌+◌, ◌-◌, ◌<◌, false, cond, List, [], ◌∷◌, length, take, drop, set, Some, None, sym, refl, ap, ◌∙◌, arith, rules}
+use Rattle.std.proofs.Common.{◌≡◌, ◌+◌, ◌-◌, ◌<◌, false, cond, [], ◌∷◌, length, take, drop, set, Some, None, ap, ◌∙◌, arith}
 use Rattle.std.proofs.lemmas.List.{length-set, length-take, length-drop}
 use Rattle.bench.proofs.RowWords.{row_left, row_cut}
 use Rattle.bench.proofs.row.leave_leader.Goals as goal

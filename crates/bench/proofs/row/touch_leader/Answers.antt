@@ -1,6 +1,5 @@
-use Rattle.std.proofs.Common.{◌≡◌, ℕ, ◌-◌, Bool, List, ◌∷◌, length, get_or, take, drop, Some, None, Option, sym, ap, ◌∙◌, arith, rules}
+use Rattle.std.proofs.Common.{◌≡◌, ◌-◌, ◌∷◌, length, get_or, take, drop, ap, ◌∙◌, rules}
 use Rattle.std.proofs.lemmas.List.{take_rest, take_at}
-use Rattle.bench.specs.Rows.{Lead}
 use Rattle.bench.proofs.RowWords.{row_replaced, same_lead}
 use Rattle.bench.proofs.row.touch_leader.Goals as goal
 

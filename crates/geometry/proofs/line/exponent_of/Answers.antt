@@ -1,4 +1,4 @@
-use Rattle.std.proofs.Common.{◌≡◌, ◌+◌, ◌^◌, ◌<◌, ◌≤◌, sym, ◌∙◌, arith, below_more}
+use Rattle.std.proofs.Common.{◌≡◌, ◌^◌, ◌≤◌, sym, ◌∙◌, arith, below_more}
 use Rattle.std.proofs.lemmas.Nat.{one_shl}
 use Rattle.geometry.proofs.Powers.{power_found, power_none}
 use Rattle.geometry.proofs.line.exponent_of.Goals as goal

@@ -1,4 +1,4 @@
-use Rattle.std.proofs.Common.{◌≡◌, length, sym, ap, ◌∙◌, arith, rules}
+use Rattle.std.proofs.Common.{length, arith, rules}
 use Rattle.policy.specs.StackRow.{count_room}
 use Rattle.policy.specs.StackLaws.{copied, copied_none}
 use Rattle.policy.proofs.stack.copy_first.Goals as goal

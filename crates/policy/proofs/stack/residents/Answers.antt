@@ -1,5 +1,5 @@
-use Rattle.std.proofs.Common.{◌+◌, ◌-◌, ◌∙◌, arith, rules}
-use Rattle.policy.specs.Stack.{fifo, lru, residents_of}
+use Rattle.std.proofs.Common.{◌+◌, ◌-◌, arith, rules}
+use Rattle.policy.specs.Stack.{fifo, lru}
 use Rattle.policy.specs.ListPolicy.{fifo_keeps, lru_keeps}
 use Rattle.policy.specs.StackRow.{residents_none, residents_part, count_within}
 use Rattle.policy.specs.StackLaws.{on_layout}

@@ -1,4 +1,4 @@
-use Rattle.std.proofs.Common.{◌≡◌, ◌+◌, ◌*◌, ◌^◌, ◌≤◌, sym, ap, ◌∙◌, subst, arith}
+use Rattle.std.proofs.Common.{◌^◌, arith}
 use Rattle.policy.specs.Three.{three, policy_of}
 use Rattle.policy.proofs.Lawful.{lawful_of}
 use Rattle.standalone.proofs.Runs.{need_is, takes_is, ran_by_geometry, rest_kept, started_again}

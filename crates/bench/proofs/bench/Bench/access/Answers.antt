@@ -1,20 +1,12 @@
-use Rattle.std.proofs.Common.{◌≡◌, ℕ, ◌+◌, ◌<◌, ◌≤◌, true, false, cond, ◌&&◌, ltb, leb, List, [], ◌∷◌, length, Some, None, sym, refl, ap, ◌∙◌, subst, arith, rules}
-use Rattle.std.proofs.lemmas.List.{take-replicate}
-use Rattle.std.proofs.lemmas.Bool.{and_left, and_right, cond-true, cond-false, le-leb, lt-leb, lt-ltb, le-ltb}
+use Rattle.std.proofs.Common.{length, sym, ◌∙◌, arith, rules}
+use Rattle.std.proofs.lemmas.Bool.{cond-true}
 use Rattle.policy.specs.Three.{three}
-use Rattle.geometry.specs.Refusal.{ask}
-use Rattle.geometry.proofs.Asked.{passes, stops}
-use Rattle.bench.specs.Asked.{refusal}
-use Rattle.bench.specs.Calls.{Do, flush, open_table, unless_refused, window}
 use Rattle.bench.specs.Held.{bench_of}
-use Rattle.bench.specs.Opened.{at_line}
-use Rattle.bench.specs.State.{bench_does, no_misses}
 use Rattle.bench.specs.Suite.{suite}
-use Rattle.bench.proofs.CallKept.{called, passed, refused}
+use Rattle.bench.proofs.CallKept.{passed, refused}
 use Rattle.bench.proofs.AllLawful.{lawful}
-use Rattle.bench.proofs.SameState.{count_is, same_bench}
 use Rattle.bench.specs.Calls.{access}
-use Rattle.bench.specs.State.{access_state, pass_state, state_need, touch_state}
+use Rattle.bench.specs.State.{pass_state, state_need, touch_state}
 use Rattle.bench.specs.Window.{cached}
 use Rattle.bench.proofs.AccessAsked.{address_refused, all_pass, kind_refused, room_refused}
 use Rattle.bench.proofs.bench.Bench.access.Goals as goal

@@ -1,5 +1,5 @@
-use Rattle.std.proofs.Common.{◌≡◌, leb, [], ◌∷◌, ◌++◌, map, length, take, drop, sym, refl, ap, ◌∙◌, arith}
-use Rattle.std.proofs.lemmas.List.{length-map, length-take-le, take_at}
+use Rattle.std.proofs.Common.{◌≡◌, leb, [], ◌++◌, length, take, drop, sym, refl, ap, ◌∙◌, arith}
+use Rattle.std.proofs.lemmas.List.{length-map, take_at}
 use Rattle.std.proofs.lemmas.Bool.{le-leb, lt-leb}
 use Rattle.policy.specs.Three.{three}
 use Rattle.geometry.proofs.Asked.{passes, stops}

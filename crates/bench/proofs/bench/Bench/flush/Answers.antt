@@ -1,18 +1,14 @@
-use Rattle.std.proofs.Common.{◌≡◌, ℕ, ◌+◌, ◌<◌, ◌≤◌, true, false, cond, ◌&&◌, ltb, leb, List, [], ◌∷◌, length, Some, None, sym, refl, ap, ◌∙◌, subst, arith, rules}
-use Rattle.std.proofs.lemmas.List.{take-replicate}
-use Rattle.std.proofs.lemmas.Bool.{and_left, and_right, cond-true, cond-false, le-leb, lt-leb, lt-ltb, le-ltb}
+use Rattle.std.proofs.Common.{leb, [], length, refl, ap, arith}
+use Rattle.std.proofs.lemmas.Bool.{le-leb}
 use Rattle.policy.specs.Three.{three}
-use Rattle.geometry.specs.Refusal.{ask}
-use Rattle.geometry.proofs.Asked.{passes, stops}
-use Rattle.bench.specs.Asked.{refusal}
-use Rattle.bench.specs.Calls.{Do, flush, open_table, unless_refused, window}
+use Rattle.geometry.proofs.Asked.{passes}
+use Rattle.bench.specs.Calls.{flush}
 use Rattle.bench.specs.Held.{bench_of}
 use Rattle.bench.specs.Opened.{at_line}
-use Rattle.bench.specs.State.{bench_does, no_misses}
 use Rattle.bench.specs.Suite.{suite}
-use Rattle.bench.proofs.CallKept.{called, passed, refused}
+use Rattle.bench.proofs.CallKept.{passed}
 use Rattle.bench.proofs.AllLawful.{lawful}
-use Rattle.bench.proofs.SameState.{count_is, same_bench}
+use Rattle.bench.proofs.SameState.{same_bench}
 use Rattle.bench.specs.State.{state_need}
 use Rattle.bench.proofs.bench.Bench.flush.Goals as goal
 

@@ -1,20 +1,16 @@
-use Rattle.std.proofs.Common.{◌≡◌, ℕ, ◌+◌, ◌<◌, ◌≤◌, true, false, cond, ◌&&◌, ltb, leb, List, [], ◌∷◌, map, length, Some, None, sym, refl, ap, ◌∙◌, subst, arith, rules}
+use Rattle.std.proofs.Common.{◌≡◌, leb, [], ◌∷◌, map, length, Some, None, sym, refl, ap, ◌∙◌, arith}
 use Rattle.std.proofs.lemmas.List.{take-replicate, length-map}
-use Rattle.std.proofs.lemmas.Bool.{and_left, and_right, cond-true, cond-false, le-leb, lt-leb, lt-ltb, le-ltb}
+use Rattle.std.proofs.lemmas.Bool.{cond-true, le-leb}
 use Rattle.policy.specs.Three.{three}
-use Rattle.geometry.specs.Refusal.{ask}
-use Rattle.geometry.proofs.Asked.{passes, stops}
-use Rattle.bench.specs.Asked.{refusal}
-use Rattle.bench.specs.Calls.{Do, flush, open_table, unless_refused, window}
+use Rattle.bench.specs.Calls.{open_table}
 use Rattle.bench.specs.Held.{bench_of}
-use Rattle.bench.specs.Opened.{at_line}
-use Rattle.bench.specs.State.{bench_does, no_misses}
+use Rattle.bench.specs.State.{no_misses}
 use Rattle.bench.specs.Suite.{suite}
-use Rattle.bench.proofs.CallKept.{called, passed, refused}
+use Rattle.bench.proofs.CallKept.{passed}
 use Rattle.bench.proofs.AllLawful.{lawful}
 use Rattle.bench.proofs.SameState.{count_is, same_bench}
 use Rattle.bench.specs.Held.{lines_of}
-use Rattle.bench.specs.Opened.{No, need, or_else, unless}
+use Rattle.bench.specs.Opened.{need, or_else, unless}
 use Rattle.bench.specs.Spans.{configs}
 use Rattle.bench.specs.State.{restarted}
 use Rattle.bench.specs.Table.{config_of, families, families_words}

@@ -1,18 +1,14 @@
-use Rattle.std.proofs.Common.{◌≡◌, ℕ, ◌+◌, ◌<◌, ◌≤◌, true, false, cond, ◌&&◌, ltb, leb, List, [], ◌∷◌, length, Some, None, sym, refl, ap, ◌∙◌, subst, arith, rules}
-use Rattle.std.proofs.lemmas.List.{take-replicate}
-use Rattle.std.proofs.lemmas.Bool.{and_left, and_right, cond-true, cond-false, le-leb, lt-leb, lt-ltb, le-ltb}
+use Rattle.std.proofs.Common.{◌&&◌, ltb, leb, [], ◌∷◌, ap, ◌∙◌}
+use Rattle.std.proofs.lemmas.Bool.{and_left, le-leb, le-ltb}
 use Rattle.policy.specs.Three.{three}
 use Rattle.geometry.specs.Refusal.{ask}
 use Rattle.geometry.proofs.Asked.{passes, stops}
-use Rattle.bench.specs.Asked.{refusal}
-use Rattle.bench.specs.Calls.{Do, flush, open_table, unless_refused, window}
+use Rattle.bench.specs.Calls.{window}
 use Rattle.bench.specs.Held.{bench_of}
 use Rattle.bench.specs.Opened.{at_line}
-use Rattle.bench.specs.State.{bench_does, no_misses}
 use Rattle.bench.specs.Suite.{suite}
-use Rattle.bench.proofs.CallKept.{called, passed, refused}
+use Rattle.bench.proofs.CallKept.{refused}
 use Rattle.bench.proofs.AllLawful.{lawful}
-use Rattle.bench.proofs.SameState.{count_is, same_bench}
 use Rattle.bench.proofs.bench.Bench.window.Goals as goal
 
 pub returns-then-first-end : goal.returns-then-first-end

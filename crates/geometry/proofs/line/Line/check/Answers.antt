@@ -1,4 +1,4 @@
-use Rattle.std.proofs.Common.{sym, ◌∙◌, arith}
+use Rattle.std.proofs.Common.{sym, ◌∙◌}
 use Rattle.policy.specs.Three.{three}
 use Rattle.policy.proofs.Lawful.{lawful_of}
 use Rattle.geometry.proofs.line.Line.check.Goals as goal

@@ -1,7 +1,7 @@
-use Rattle.std.proofs.Common.{◌≡◌, length, take, sym, refl, ap, ◌∙◌, arith, rules}
+use Rattle.std.proofs.Common.{take, sym, ap, ◌∙◌, arith, rules}
 use Rattle.std.proofs.lemmas.List.{length-take}
 use Rattle.jobtext.specs.declared.reader.Part.TheVariants as part
-use Rattle.jobtext.specs.Job.{State, added, kind_of, moved, state_of}
+use Rattle.jobtext.specs.Job.{kind_of, moved, state_of}
 use Rattle.jobtext.specs.Seen.{entry_of}
 use Rattle.jobtext.proofs.States.{table_admitted, table_full, table_room}
 use Rattle.jobtext.proofs.reader.Reader.admit.Goals as goal
