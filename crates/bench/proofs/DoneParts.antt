@@ -1,6 +1,6 @@
 -- Parts of a sweep that are done one after the other.
 use Rattle.std.proofs.Common.{◌≡◌, ℕ, suc, ◌+◌, ◌*◌, ◌≤◌, min, Bool, true, false, cond, List, [], ◌∷◌, ◌++◌, length, take, drop, sym, refl, ap, ◌∙◌, arith}
-use Rattle.std.specs.List.{AllByRecursion as All}
+use Rattle.std.specs.List.{AllByRecursion}
 use Rattle.std.proofs.lemmas.List.{length-append, length-drop, length-map, length-take}
 use Rattle.std.proofs.lemmas.Bool.{cond_both, cond-true, cond-false}
 use Rattle.bench.specs.Rows.{Stepped}
@@ -36,19 +36,19 @@ done_then v w kind ms ms' ns ns' ws ws' c d e V W = record {
 pub done_same : {v : Visited} {kind : ℕ} {ms ms₁ ms₂ : List (List ℕ)} {ws₁ ws₂ : List ℕ} {c₁ c₂ : ℕ} → ms₂ ≡ ms₁ → ws₂ ≡ ws₁ → c₂ ≡ c₁ → Done v kind ms ms₁ ws₁ c₁ → Done v kind ms ms₂ ws₂ c₂
 done_same em ew ec D = record { words = ew ∙ D.words; misses = em ∙ D.misses; compared = ec ∙ D.compared }
 
-pub done_skip : (kind : ℕ) (hs : List Bool) (ms : List (List ℕ)) (ws : List ℕ) → All (λ h. h ≡ true) hs → Done (skip hs ws) kind ms ms ws 0
+pub done_skip : (kind : ℕ) (hs : List Bool) (ms : List (List ℕ)) (ws : List ℕ) → AllByRecursion (λ h. h ≡ true) hs → Done (skip hs ws) kind ms ms ws 0
 done_skip kind hs ms ws t = record { words = refl; misses = sym (hits_kept kind hs ms t); compared = refl }
 
 -- skipped lines all hit
-append_true : (hs gs : List Bool) → All (λ h. h ≡ true) hs → All (λ h. h ≡ true) gs → All (λ h. h ≡ true) (hs ++ gs)
+append_true : (hs gs : List Bool) → AllByRecursion (λ h. h ≡ true) hs → AllByRecursion (λ h. h ≡ true) gs → AllByRecursion (λ h. h ≡ true) (hs ++ gs)
 append_true [] gs t u = u
 append_true (h ∷ hs) gs t u = (t.0, append_true hs gs t.1 u)
 
-pub levels_true : (ls : List Level) → All (λ h. h ≡ true) (levels_hit ls)
+pub levels_true : (ls : List Level) → AllByRecursion (λ h. h ≡ true) (levels_hit ls)
 levels_true [] = tt
 levels_true (l ∷ ls) = append_true (all_hit l.lines) (levels_hit ls) (all_hit_true l.lines) (levels_true ls)
 
-pub families_true : (fs : List Family) → All (λ h. h ≡ true) (families_hit fs)
+pub families_true : (fs : List Family) → AllByRecursion (λ h. h ≡ true) (families_hit fs)
 families_true [] = tt
 families_true (f ∷ fs) = append_true (levels_hit f.levels) (families_hit fs) (levels_true f.levels) (families_true fs)
 

@@ -1,7 +1,7 @@
 -- Fresh caches, as an open and a flush make them: the reference model holds what it keeps between calls, and the started words
 -- stand beside it.
 use Rattle.std.proofs.Common.{◌≡◌, ℕ, zero, suc, ◌+◌, ◌*◌, ◌%◌, ◌<◌, ◌≤◌, Bool, true, false, not, eqb, List, [], ◌∷◌, ◌++◌, map, length, get_or, take, drop, replicate, Some, None, sym, refl, ap, ◌∙◌, subst, ap₂, subst₂, mod-lt, arith}
-use Rattle.std.specs.List.{AllByRecursion as All}
+use Rattle.std.specs.List.{AllByRecursion}
 use Rattle.std.proofs.ByRecursion.{All-weaker}
 use Rattle.std.proofs.lemmas.List.{append_assoc, append-nil, drop_at, get_or-replicate, length-append, length-replicate, take_all, take_at}
 use Rattle.std.proofs.lemmas.Bool.{and_left, and_parts, cond_both, cond-false, cond-true, not-false, not-true, true≢false}
@@ -30,23 +30,23 @@ FreshLine s sets z = z.cache.rows ≡ replicate sets ((meaning s z.kin.member).s
 
 pub record FreshLevel (s : Suite) (l : LevelModel) : Type 0 where
   pub tags : l.direct.tags ≡ replicate l.sets None
-  pub lines : All (FreshLine s l.sets) l.lines
+  pub lines : AllByRecursion (FreshLine s l.sets) l.lines
 
 -- all levels
 abbrev pub FreshFamilies : Suite → List FamilyModel → Type 0
-FreshFamilies s fs = All (λ f. All (FreshLevel s) f.levels) fs
+FreshFamilies s fs = AllByRecursion (λ f. AllByRecursion (FreshLevel s) f.levels) fs
 
 -- what holds of all images holds of what they are images of
-all_of_map : {X Y : Type 0} (P : Y → Type 0) (f : X → Y) (xs : List X) → All P (map f xs) → All (λ x. P (f x)) xs
+all_of_map : {X Y : Type 0} (P : Y → Type 0) (f : X → Y) (xs : List X) → AllByRecursion P (map f xs) → AllByRecursion (λ x. P (f x)) xs
 all_of_map P f [] a = tt
 all_of_map P f (x ∷ xs) a = (a.0, all_of_map P f xs a.1)
 
 -- new caches are fresh
-lines_fresh : (s : Suite) (sets : ℕ) (ks : List Kin) → All (FreshLine s sets) (map (new_line s sets) ks)
+lines_fresh : (s : Suite) (sets : ℕ) (ks : List Kin) → AllByRecursion (FreshLine s sets) (map (new_line s sets) ks)
 lines_fresh s sets [] = tt
 lines_fresh s sets (k ∷ ks) = (refl, lines_fresh s sets ks)
 
-levels_fresh : (s : Suite) (ls : List Level) → All (FreshLevel s) (map (new_level s) ls)
+levels_fresh : (s : Suite) (ls : List Level) → AllByRecursion (FreshLevel s) (map (new_level s) ls)
 levels_fresh s [] = tt
 levels_fresh s (l ∷ ls) = (record { tags = refl; lines = lines_fresh s l.sets l.lines }, levels_fresh s ls)
 
@@ -80,7 +80,7 @@ module _ (s : Suite) (l : LevelModel) (F : FreshLevel s l) where
         (ap (λ rs. get_or rs i []) e ∙ get_or-replicate l.sets i _ [] low);
   }
 
-  lines_kept : (zs : List LineModel) → ProperLines s (map (λ z. z.kin) zs) → All (FreshLine s l.sets) zs → All (LineKept s l.sets l.direct.tags) zs
+  lines_kept : (zs : List LineModel) → ProperLines s (map (λ z. z.kin) zs) → AllByRecursion (FreshLine s l.sets) zs → AllByRecursion (LineKept s l.sets l.direct.tags) zs
   lines_kept [] P a = tt
   lines_kept (z ∷ zs) P a = (line_kept z P.0 a.0, lines_kept zs P.1.1 a.1)
 
@@ -94,7 +94,7 @@ module _ (s : Suite) (l : LevelModel) (F : FreshLevel s l) where
       none_some : {t : ℕ} → None ≡ Some t → ⊥
       none_some e = let z : ◌≡◌ {A = ℕ} 0 1 = cc in omega arith
 
-levels_kept : (s : Suite) (ls : List LevelModel) → ProperLevels s (map level_of ls) → All (FreshLevel s) ls → LevelsKept s ls
+levels_kept : (s : Suite) (ls : List LevelModel) → ProperLevels s (map level_of ls) → AllByRecursion (FreshLevel s) ls → LevelsKept s ls
 levels_kept s [] P a = tt
 levels_kept s (l ∷ ls) P a =
     (level_kept s l a.0 P.0 P.1.0, (All-weaker _ (Includes l) (fresh_includes s l a.0 P.0) ls (all_of_map _ level_of ls P.1.1.0), levels_kept s ls P.1.1.1 a.1))
@@ -127,14 +127,14 @@ module _ (s : Suite) (k : Kin) (ks : List Kin) where
   slot_starts e = ap (drop 1) (cond-false (follows k ks) _ _ e)
 
 -- ways that rise among lines rise among their rows
-rising : (s : Suite) (k : Member) (a : ℕ) (js : List Kin) → All (λ j. same k j.member ≡ true → a ≤ j.ways) js → All (λ y. a ≤ y.ways) (rows_of k (started_slots s js))
+rising : (s : Suite) (k : Member) (a : ℕ) (js : List Kin) → AllByRecursion (λ j. same k j.member ≡ true → a ≤ j.ways) js → AllByRecursion (λ y. a ≤ y.ways) (rows_of k (started_slots s js))
 rising s k a [] h = tt
-rising s k a (j ∷ js) h = cond_both (same k j.member) _ _ (All (λ (y : Slot). a ≤ y.ways)) (λ e. (h.0 e, rising s k a js h.1)) (λ _. rising s k a js h.1)
+rising s k a (j ∷ js) h = cond_both (same k j.member) _ _ (AllByRecursion (λ (y : Slot). a ≤ y.ways)) (λ e. (h.0 e, rising s k a js h.1)) (λ _. rising s k a js h.1)
 
 -- the wider lines of a proper level are proper
-all_wide : (P : Kin → Type 0) (ks : List Kin) → All P ks → All P (wide ks)
+all_wide : (P : Kin → Type 0) (ks : List Kin) → AllByRecursion P ks → AllByRecursion P (wide ks)
 all_wide P [] a = tt
-all_wide P (k ∷ ks) a = cond_both (one_way k) _ _ (All P) (λ _. all_wide P ks a.1) (λ _. (a.0, all_wide P ks a.1))
+all_wide P (k ∷ ks) a = cond_both (one_way k) _ _ (AllByRecursion P) (λ _. all_wide P ks a.1) (λ _. (a.0, all_wide P ks a.1))
 
 proper_wide : (s : Suite) (ks : List Kin) → ProperLines s ks → ProperLines s (wide ks)
 proper_wide s [] P = tt
@@ -144,7 +144,7 @@ proper_wide s (k ∷ ks) P = cond_both (one_way k) _ _ (ProperLines s) (λ _. pr
 abbrev start_rows : Suite → List Kin → List (List ℕ)
 start_rows s ks = map (λ k. (meaning s k.member).start (k.ways + 1)) ks
 
-fresh-rows : (s : Suite) (sets i : ℕ) → i < sets → (zs : List LineModel) → All (FreshLine s sets) zs → set_rows i zs ≡ start_rows s (wide (map (λ z. z.kin) zs))
+fresh-rows : (s : Suite) (sets i : ℕ) → i < sets → (zs : List LineModel) → AllByRecursion (FreshLine s sets) zs → set_rows i zs ≡ start_rows s (wide (map (λ z. z.kin) zs))
 fresh-rows s sets i low [] F = refl
 fresh-rows s sets i low (z ∷ zs) F = go (one_way z.kin) refl (fresh-rows s sets i low zs F.1)
   where
@@ -173,7 +173,7 @@ module _ (s : Suite) (L : Lawful s) where
 
   -- the rows of a line in all sets
   module _ (sets : ℕ) (k : Kin) (ks : List Kin) (takes : (meaning s k.member).takes k.ways ≡ true) where
-    whole : All (λ r. length r ≡ k.ways + 2) (replicate sets (started_row s k ks))
+    whole : AllByRecursion (λ r. length r ≡ k.ways + 2) (replicate sets (started_row s k ks))
     whole = all_replicate _ sets (started_row s k ks) (row_words k ks takes)
 
     laid_words : length (laid (replicate sets (started_row s k ks))) ≡ line_words sets k.ways
@@ -287,7 +287,7 @@ module _ (s : Suite) (L : Lawful s) where
             (all_abreast (wide (kins l)) W);
       }
 
-  levels_track : (ls : List LevelModel) → ProperLevels s (map level_of ls) → All (FreshLevel s) ls → LevelsTrack s ls (started_levels s (map level_of ls))
+  levels_track : (ls : List LevelModel) → ProperLevels s (map level_of ls) → AllByRecursion (FreshLevel s) ls → LevelsTrack s ls (started_levels s (map level_of ls))
   levels_track [] P F = refl
   levels_track (l ∷ ls) P F =
       let mine = started_level s (level_of l) in

@@ -2,7 +2,7 @@
 -- A level that holds the block of an access already stays as it is but for its counts, and all its lines hit.
 use Rattle.std.proofs.Common.{◌≡◌, ℕ, ◌+◌, ◌*◌, ◌/◌, ◌%◌, ◌^◌, ◌<◌, true, ◌⊎◌, List, [], ◌∷◌, map, length, get_or, set, Some, None, sym, refl, ap, ◌∙◌, subst, ap₂, inl, inr, arith}
 use native.Mathlib.Nat.{div-add-mod, div-div-eq-div-mul, dvd-mul_right, mod-mod_of_dvd}
-use Rattle.std.specs.List.{AllByRecursion as All}
+use Rattle.std.specs.List.{AllByRecursion}
 use Rattle.std.proofs.ByRecursion.{All-map, All-weaker}
 use Rattle.std.proofs.lemmas.List.{get_or-set_other, get_or-set_same, length-set}
 use Rattle.std.proofs.lemmas.Bool.{cases_eq}
@@ -66,15 +66,15 @@ includes_touched s b x l larger some more long wide I = record { more = I.more; 
     at k (inr h) = get_or-set_other larger.direct.tags i (k % larger.sets) (Some t) None (λ e. h.0 (same_set (x.address / b) k l.sets larger.sets I.factor I.multiple e)) ∙ I.holds k h.1
 
 -- what a smaller level holds, all later ones of its block size hold
-pub later_hold : (l : LevelModel) (ls : List LevelModel) (k : ℕ) → All (Includes l) ls → Holds l k → All (λ z. Holds z k) ls
+pub later_hold : (l : LevelModel) (ls : List LevelModel) (k : ℕ) → AllByRecursion (Includes l) ls → Holds l k → AllByRecursion (λ z. Holds z k) ls
 later_hold l ls k I h = All-weaker (Includes l) (λ z. Holds z k) (λ z i. i.holds k h) ls I
 
 -- the access just touched is held by every direct-mapped cache
-levels_hold : (s : Suite) (b : ℕ) (x : Access) (ls : List LevelModel) → LevelsKept s ls → All (λ l. Holds l (x.address / b)) (map (touch_level s b x) ls)
+levels_hold : (s : Suite) (b : ℕ) (x : Access) (ls : List LevelModel) → LevelsKept s ls → AllByRecursion (λ l. Holds l (x.address / b)) (map (touch_level s b x) ls)
 levels_hold s b x [] K = tt
 levels_hold s b x (l ∷ ls) K = (holds-touched s b x l K.0.some K.0.tags, levels_hold s b x ls K.1.1)
 
-pub held_touched : (s : Suite) (x : Access) (fs : List FamilyModel) → FamiliesKept s fs → All (HeldBy x.address) (map (touch_family s x) fs)
+pub held_touched : (s : Suite) (x : Access) (fs : List FamilyModel) → FamiliesKept s fs → AllByRecursion (HeldBy x.address) (map (touch_family s x) fs)
 held_touched s x [] K = tt
 held_touched s x (f ∷ fs) K = (levels_hold s f.block x f.levels K.1.0, held_touched s x fs K.1.1.1)
 
@@ -92,7 +92,7 @@ module _ (s : Suite) (L : Lawful s) (x : Access) (small : x.address < 2 ^ 32) wh
     lines = All-map _ (touch_line s b l.sets x) l.lines (All-weaker _ _ (λ z k. line_touched s L b l.sets x small K.some l.direct.tags z k K.tags) l.lines K.lines);
   }
 
-  includes_all : (b : ℕ) (l : LevelModel) (ls : List LevelModel) → LevelKept s l → All (Includes l) ls → LevelsKept s ls → All (Includes (touch_level s b x l)) (map (touch_level s b x) ls)
+  includes_all : (b : ℕ) (l : LevelModel) (ls : List LevelModel) → LevelKept s l → AllByRecursion (Includes l) ls → LevelsKept s ls → AllByRecursion (Includes (touch_level s b x l)) (map (touch_level s b x) ls)
   includes_all b l [] K I Ks = tt
   includes_all b l (z ∷ ls) K I Ks = (includes_touched s b x l z K.some Ks.0.some K.tags Ks.0.tags I.0, includes_all b l ls K I.1 Ks.1.1)
 
@@ -101,7 +101,7 @@ module _ (s : Suite) (L : Lawful s) (x : Access) (small : x.address < 2 ^ 32) wh
   levels_touched b (l ∷ ls) K = (level_touched b l K.0, (includes_all b l ls K.0 K.1.0 K.1.1, levels_touched b ls K.1.1))
 
   -- the block sizes stay
-  coarser_all : (f : FamilyModel) (fs : List FamilyModel) → All (Coarser f) fs → All (Coarser (touch_family s x f)) (map (touch_family s x) fs)
+  coarser_all : (f : FamilyModel) (fs : List FamilyModel) → AllByRecursion (Coarser f) fs → AllByRecursion (Coarser (touch_family s x f)) (map (touch_family s x) fs)
   coarser_all f fs C = All-map _ (touch_family s x) fs (All-weaker (Coarser f) _ (λ g c. record { factor = c.factor; multiple = c.multiple }) fs C)
 
   pub families_touched : (fs : List FamilyModel) → FamiliesKept s fs → FamiliesKept s (map (touch_family s x) fs)
@@ -109,11 +109,11 @@ module _ (s : Suite) (L : Lawful s) (x : Access) (small : x.address < 2 ^ 32) wh
   families_touched (f ∷ fs) K = (K.0, (levels_touched f.block f.levels K.1.0, (coarser_all f fs K.1.1.0, families_touched fs K.1.1.1)))
 
   module _ (b : ℕ) (l : LevelModel) (K : LevelKept s l) (held : Holds l (x.address / b)) where
-    rows_stay : (zs : List LineModel) → All (LineKept s l.sets l.direct.tags) zs → map (λ z. z.cache.rows) (map (touch_line s b l.sets x) zs) ≡ map (λ z. z.cache.rows) zs
+    rows_stay : (zs : List LineModel) → AllByRecursion (LineKept s l.sets l.direct.tags) zs → map (λ z. z.cache.rows) (map (touch_line s b l.sets x) zs) ≡ map (λ z. z.cache.rows) zs
     rows_stay [] k = refl
     rows_stay (z ∷ zs) k = ap₂ (λ r rs. r ∷ rs) (hit_rows s L b l.sets x small K.some l.direct.tags z k.0 held) (rows_stay zs k.1)
 
-    lines_hit : (zs : List LineModel) → All (LineKept s l.sets l.direct.tags) zs → map (λ z. (touch_of (meaning s z.kin.member) b l.sets z.cache.rows x).hit) zs ≡ map (λ z. true) zs
+    lines_hit : (zs : List LineModel) → AllByRecursion (LineKept s l.sets l.direct.tags) zs → map (λ z. (touch_of (meaning s z.kin.member) b l.sets z.cache.rows x).hit) zs ≡ map (λ z. true) zs
     lines_hit [] k = refl
     lines_hit (z ∷ zs) k = ap₂ (λ h hs. h ∷ hs) (hit_hits s L b l.sets x small K.some l.direct.tags z k.0 held) (lines_hit zs k.1)
 

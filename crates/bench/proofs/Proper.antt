@@ -1,7 +1,7 @@
 -- A proper table: its policies take the ways of their lines, block sizes and sets are multiples of those before them, the sets of
 -- one block size rise, and at one level the ways of a policy rise. A table that an open accepts is proper.
 use Rattle.std.proofs.Common.{◌≡◌, ℕ, zero, suc, ◌+◌, ◌-◌, ◌*◌, ◌^◌, ◌<◌, ◌≤◌, Bool, true, false, ◌&&◌, ◌||◌, eqb, ltb, ◌⊎◌, List, [], ◌∷◌, ◌++◌, map, is_some, Some, None, Option, sym, refl, ap, ◌∙◌, inl, inr, arith}
-use Rattle.std.specs.List.{AllByRecursion as All}
+use Rattle.std.specs.List.{AllByRecursion}
 use Rattle.std.proofs.lemmas.Nat.{pow-add, pow_below, pow_pos}
 use Rattle.std.proofs.ByRecursion.{All-map, All-weaker}
 use Rattle.std.proofs.lemmas.Bool.{and_parts, cases_lt, cond_both, eqb-false, eqb-true, ltb-true, or_cases, true≢false}
@@ -28,17 +28,17 @@ Larger a b = (a < b) × Multiple a b
 -- the lines of one level: each policy takes its ways, and a later line of the same policy has no fewer
 abbrev pub ProperLines : Suite → List Kin → Type 0
 ProperLines s [] = Unit {0}
-ProperLines s (k ∷ ks) = ((meaning s k.member).takes k.ways ≡ true) × (All (λ j. same k.member j.member ≡ true → k.ways ≤ j.ways) ks × ProperLines s ks)
+ProperLines s (k ∷ ks) = ((meaning s k.member).takes k.ways ≡ true) × (AllByRecursion (λ j. same k.member j.member ≡ true → k.ways ≤ j.ways) ks × ProperLines s ks)
 
 -- the levels of one block size
 abbrev pub ProperLevels : Suite → List Level → Type 0
 ProperLevels s [] = Unit {0}
-ProperLevels s (l ∷ ls) = (0 < l.sets) × (ProperLines s l.lines × (All (λ m. Larger l.sets m.sets) ls × ProperLevels s ls))
+ProperLevels s (l ∷ ls) = (0 < l.sets) × (ProperLines s l.lines × (AllByRecursion (λ m. Larger l.sets m.sets) ls × ProperLevels s ls))
 
 -- all levels
 abbrev pub ProperFamilies : Suite → List Family → Type 0
 ProperFamilies s [] = Unit {0}
-ProperFamilies s (f ∷ fs) = (0 < f.block) × (ProperLevels s f.levels × (All (λ g. Multiple f.block g.block) fs × ProperFamilies s fs))
+ProperFamilies s (f ∷ fs) = (0 < f.block) × (ProperLevels s f.levels × (AllByRecursion (λ g. Multiple f.block g.block) fs × ProperFamilies s fs))
 
 -- powers of two
 record Power (n : ℕ) : Type 0 where
@@ -76,11 +76,11 @@ record Passed (p : Three) (l : Line) : Type 0 where
   sets : Power l.sets
   block : Power l.block
 
-pub all_pass : (qs : List Question) → first_no qs ≡ None → All (λ q. q.passes ≡ true) qs
+pub all_pass : (qs : List Question) → first_no qs ≡ None → AllByRecursion (λ q. q.passes ≡ true) qs
 all_pass [] e = tt
 all_pass (q ∷ qs) e = go q.passes refl (all_pass qs)
   where
-    go : (b : Bool) → q.passes ≡ b → (first_no qs ≡ None → All (λ r. r.passes ≡ true) qs) → All (λ r. r.passes ≡ true) (q ∷ qs)
+    go : (b : Bool) → q.passes ≡ b → (first_no qs ≡ None → AllByRecursion (λ r. r.passes ≡ true) qs) → AllByRecursion (λ r. r.passes ≡ true) (q ∷ qs)
     go true p ih = (p, ih (sym (passes q.number q.passes qs p) ∙ e))
     go false p ih = let z : ◌≡◌ {A = ℕ} 0 1 = cc (stops q.number q.passes qs p) in absurd (omega arith)
 
@@ -92,7 +92,7 @@ pub none_at : (i : ℕ) (x : Option ℕ) → at_line i x ≡ None → x ≡ None
 none_at i None e = refl
 none_at i (Some x) e = let z : ◌≡◌ {A = ℕ} 0 1 = cc in absurd (omega arith)
 
-line_passed : (p : Three) (l : Line) → All (λ q. q.passes ≡ true) (line_questions p l) → Passed p l
+line_passed : (p : Three) (l : Line) → AllByRecursion (λ q. q.passes ≡ true) (line_questions p l) → Passed p l
 line_passed p l a = go (which p l.letter) refl a.0 a.1.1.1.0
   where
     go : (o : Option Member) → which p l.letter ≡ o → is_some o ≡ true → ways_taken p o l.ways ≡ true → Passed p l
@@ -188,47 +188,47 @@ passed_earlier p x y X Y O = record { block = O.block; sets = O.sets; ways = λ 
 record BeforeLevel (c : Config) (l : Level) : Type 0 where
   sets : c.sets ≤ l.sets
   power : Power l.sets
-  lines : c.sets ≡ l.sets → All (λ j. same c.member j.member ≡ true → c.ways ≤ j.ways) l.lines
+  lines : c.sets ≡ l.sets → AllByRecursion (λ j. same c.member j.member ≡ true → c.ways ≤ j.ways) l.lines
 
 record BeforeFamily (c : Config) (f : Family) : Type 0 where
   block : c.block ≤ f.block
   power : Power f.block
-  levels : c.block ≡ f.block → All (BeforeLevel c) f.levels
+  levels : c.block ≡ f.block → AllByRecursion (BeforeLevel c) f.levels
 
 -- it is also before them with a line d that it is before
 module _ (s : Suite) (c d : Config) (G : Good s d) (E : Earlier c d) where
   before-new_level : c.block ≡ d.block → BeforeLevel c (new_level d)
   before-new_level b = record { sets = E.sets b; power = G.sets; lines = λ e. (E.ways b e, tt) }
 
-  before_levels : c.block ≡ d.block → (ls : List Level) → All (BeforeLevel c) ls → All (BeforeLevel c) (in_levels d ls)
+  before_levels : c.block ≡ d.block → (ls : List Level) → AllByRecursion (BeforeLevel c) ls → AllByRecursion (BeforeLevel c) (in_levels d ls)
   before_levels b [] B = (before-new_level b, tt)
-  before_levels b (l ∷ ls) B = cond_both (eqb d.sets l.sets) _ _ (All (BeforeLevel c)) joins news
+  before_levels b (l ∷ ls) B = cond_both (eqb d.sets l.sets) _ _ (AllByRecursion (BeforeLevel c)) joins news
     where
-      joins : eqb d.sets l.sets ≡ true → All (BeforeLevel c) (record { sets = l.sets; lines = kin d ∷ l.lines } ∷ ls)
+      joins : eqb d.sets l.sets ≡ true → AllByRecursion (BeforeLevel c) (record { sets = l.sets; lines = kin d ∷ l.lines } ∷ ls)
       joins e =
           let is : d.sets ≡ l.sets = eqb-true d.sets l.sets e in
           (record { sets = B.0.sets; power = B.0.power; lines = λ h. (E.ways b (h ∙ sym is), B.0.lines h) }, B.1)
 
-      news : eqb d.sets l.sets ≡ false → All (BeforeLevel c) (new_level d ∷ l ∷ ls)
+      news : eqb d.sets l.sets ≡ false → AllByRecursion (BeforeLevel c) (new_level d ∷ l ∷ ls)
       news e = (before-new_level b, B)
 
   before-new_family : BeforeFamily c (new_family d)
   before-new_family = record { block = E.block; power = G.block; levels = λ b. (before-new_level b, tt) }
 
-  before-families : (fs : List Family) → All (BeforeFamily c) fs → All (BeforeFamily c) (in_families d fs)
+  before-families : (fs : List Family) → AllByRecursion (BeforeFamily c) fs → AllByRecursion (BeforeFamily c) (in_families d fs)
   before-families [] B = (before-new_family, tt)
-  before-families (f ∷ fs) B = cond_both (eqb d.block f.block) _ _ (All (BeforeFamily c)) joins news
+  before-families (f ∷ fs) B = cond_both (eqb d.block f.block) _ _ (AllByRecursion (BeforeFamily c)) joins news
     where
-      joins : eqb d.block f.block ≡ true → All (BeforeFamily c) (record { block = f.block; levels = in_levels d f.levels } ∷ fs)
+      joins : eqb d.block f.block ≡ true → AllByRecursion (BeforeFamily c) (record { block = f.block; levels = in_levels d f.levels } ∷ fs)
       joins e =
           let is : d.block ≡ f.block = eqb-true d.block f.block e in
           (record { block = B.0.block; power = B.0.power; levels = λ b. before_levels (b ∙ sym is) f.levels (B.0.levels b) }, B.1)
 
-      news : eqb d.block f.block ≡ false → All (BeforeFamily c) (new_family d ∷ f ∷ fs)
+      news : eqb d.block f.block ≡ false → AllByRecursion (BeforeFamily c) (new_family d ∷ f ∷ fs)
       news e = (before-new_family, B)
 
 -- and before all levels of lines that it is before
-before_all : (s : Suite) (c : Config) (ds : List Config) → All (λ d. Good s d × Earlier c d) ds → All (BeforeFamily c) (families ds)
+before_all : (s : Suite) (c : Config) (ds : List Config) → AllByRecursion (λ d. Good s d × Earlier c d) ds → AllByRecursion (BeforeFamily c) (families ds)
 before_all s c [] a = tt
 before_all s c (d ∷ ds) a = before-families s c d a.0.0 a.0.1 (families ds) (before_all s c ds a.1)
 
@@ -238,11 +238,11 @@ module _ (s : Suite) (c : Config) (G : Good s c) where
   proper_new_level = (power_some c.sets G.sets, ((G.takes, (tt, tt)), (tt, tt)))
 
   -- the greater sets of later levels are multiples
-  all_larger : (ls : List Level) → All (BeforeLevel c) ls → All (λ m. c.sets < m.sets) ls → All (λ m. Larger c.sets m.sets) ls
+  all_larger : (ls : List Level) → AllByRecursion (BeforeLevel c) ls → AllByRecursion (λ m. c.sets < m.sets) ls → AllByRecursion (λ m. Larger c.sets m.sets) ls
   all_larger [] B rise = tt
   all_larger (m ∷ ms) B rise = ((rise.0, power_multiple c.sets m.sets G.sets B.0.power B.0.sets), all_larger ms B.1 rise.1)
 
-  proper_levels : (ls : List Level) → All (BeforeLevel c) ls → ProperLevels s ls → ProperLevels s (in_levels c ls)
+  proper_levels : (ls : List Level) → AllByRecursion (BeforeLevel c) ls → ProperLevels s ls → ProperLevels s (in_levels c ls)
   proper_levels [] B P = proper_new_level
   proper_levels (l ∷ ls) B P = cond_both (eqb c.sets l.sets) _ _ (ProperLevels s) joins news
     where
@@ -258,7 +258,7 @@ module _ (s : Suite) (c : Config) (G : Good s c) where
   proper_new_family : (0 < c.block) × ProperLevels s (new_level c ∷ [])
   proper_new_family = (power_some c.block G.block, proper_new_level)
 
-  proper_families : (fs : List Family) → All (BeforeFamily c) fs → ProperFamilies s fs → ProperFamilies s (in_families c fs)
+  proper_families : (fs : List Family) → AllByRecursion (BeforeFamily c) fs → ProperFamilies s fs → ProperFamilies s (in_families c fs)
   proper_families [] B P = (proper_new_family.0, (proper_new_family.1, (tt, tt)))
   proper_families (f ∷ fs) B P = cond_both (eqb c.block f.block) _ _ (ProperFamilies s) joins news
     where
@@ -281,7 +281,7 @@ first_passes p i last l ls e =
     record { passed = line_passed p l (a.0, (a.1.0, (a.1.1.0, (a.1.1.1.0, tt)))); order = a.1.1.1.1.0; others = others }
 
 -- lines that pass after x are all greater
-later_ordered : (p : Three) (i : ℕ) (x : Line) (ls : List Line) → lines_refusal p i (Some x) ls ≡ None → All (λ y. Passed p y × Ordered x y) ls
+later_ordered : (p : Three) (i : ℕ) (x : Line) (ls : List Line) → lines_refusal p i (Some x) ls ≡ None → AllByRecursion (λ y. Passed p y × Ordered x y) ls
 later_ordered p i x [] e = tt
 later_ordered p i x (y ∷ ls) e =
     let F = first_passes p i (Some x) y ls e in

@@ -1,6 +1,6 @@
 -- The records of lines.
 use Rattle.std.proofs.Common.{◌≡◌, ℕ, ◌+◌, ◌-◌, ◌<◌, List, [], ◌∷◌, ◌++◌, map, length, get_or, take, drop, set, sym, refl, ap, ◌∙◌, arith}
-use Rattle.std.specs.List.{AllByRecursion as All}
+use Rattle.std.specs.List.{AllByRecursion}
 use Rattle.std.proofs.lemmas.List.{append_assoc, drop_more, length-map, length-take-le, map_push, set_at, take_more}
 use Rattle.standalone.specs.Cache.{Cache}
 use Rattle.standalone.specs.declared.access.Counts.{Counts}
@@ -53,7 +53,7 @@ three_hits cached ms hs a b e =
     ap (λ cs. hits_of cs ms) (sym e) ∙ ap (λ xs. hits_of (sums xs hs) xs) M.is ∙ ap (λ ys. hits_of (sums m ys) m) H.is
     ∙ three_left M.first M.second M.third H.first H.second H.third ∙ sym H.is
 
-same_records : (cached : List ℕ) (cs : List Cache) → All (Summed cached) cs → map (record_of cached) (map (λ c. c.misses) cs) ≡ map cache_record cs
+same_records : (cached : List ℕ) (cs : List Cache) → AllByRecursion (Summed cached) cs → map (record_of cached) (map (λ c. c.misses) cs) ≡ map cache_record cs
 same_records cached [] h = refl
 same_records cached (c ∷ cs) h =
     ap (λ hs. record { misses = c.misses; hits = hs } ∷ map (record_of cached) (map (λ c. c.misses) cs)) (three_hits cached c.misses c.hits h.0.0 h.0.1 h.0.2)

@@ -1,6 +1,6 @@
 -- The four ways in which a follower goes, and what a sweep leaves of the ways.
 use Rattle.std.proofs.Common.{◌≡◌, ℕ, ◌<◌, ◌≤◌, Bool, true, false, cond, leb, List, [], ◌∷◌, Some, None, Option, sym, refl, ap, ◌∙◌, subst}
-use Rattle.std.specs.List.{AllByRecursion as All}
+use Rattle.std.specs.List.{AllByRecursion}
 use Rattle.std.proofs.lemmas.Bool.{leb-true, leb-false}
 use Rattle.policy.specs.Policy.{Meaning}
 use Rattle.policy.specs.Nesting.{Nest}
@@ -51,6 +51,6 @@ step_ways m e x t l = go (leads x) refl
     go false h = ap (λ r. r.slot.ways) (step_follows m e x t l h) ∙ follower_ways m e x t l
 
 -- the ways stay, so they rise as before
-pub rising_kept : (m : Meaning) (e : Nest) (t n : ℕ) (xs : List Slot) → All (λ y. n ≤ y.ways) xs → All (λ y. n ≤ y.ways) (sweep (step m e) xs t).slots
+pub rising_kept : (m : Meaning) (e : Nest) (t n : ℕ) (xs : List Slot) → AllByRecursion (λ y. n ≤ y.ways) xs → AllByRecursion (λ y. n ≤ y.ways) (sweep (step m e) xs t).slots
 rising_kept m e t n [] h = tt
 rising_kept m e t n (x ∷ xs) h = (subst (λ w. n ≤ w) (sym (step_ways m e x t (sweep (step m e) xs t).lead)) h.0, rising_kept m e t n xs h.1)

@@ -1,6 +1,6 @@
 -- The sweep at one set keeps its rows beside the standalone rows, hits as they do, and compares no more.
 use Rattle.std.proofs.Common.{◌≡◌, ℕ, ◌+◌, ◌^◌, ◌<◌, ◌≤◌, Bool, true, false, ◌&&◌, leb, List, [], ◌∷◌, take, Some, None, Option, sym, refl, ap, ◌∙◌, subst, arith}
-use Rattle.std.specs.List.{AllByRecursion as All}
+use Rattle.std.specs.List.{AllByRecursion}
 use Rattle.std.proofs.lemmas.List.{take-take}
 use Rattle.std.proofs.lemmas.Bool.{true≢false, and_left, and_right, and_from, le-leb, lt-leb, leb-true, leb-false, cond-true, cond-false}
 use Rattle.policy.specs.Search.{place}
@@ -42,7 +42,7 @@ module _ (m : Meaning) (L : Laws m) (e : Nest) (V : Nests m e) (t : ℕ) (small 
           subst Known is (record { takes = b.0.takes; made = (b.0.leading h).made })
       go false h ih = ih (sym (leader_later x xs h) ∙ n)
 
-  leader_wider : (k : ℕ) (xs : List Slot) (y : Slot) → All (λ z. k ≤ z.ways) xs → leader xs ≡ Some y → k ≤ y.ways
+  leader_wider : (k : ℕ) (xs : List Slot) (y : Slot) → AllByRecursion (λ z. k ≤ z.ways) xs → leader xs ≡ Some y → k ≤ y.ways
   leader_wider k [] y h n = absurd (none_some y n)
   leader_wider k (x ∷ xs) y h n = go (leads x) refl (leader_wider k xs y h.1)
     where
@@ -122,7 +122,7 @@ module _ (m : Meaning) (L : Laws m) (e : Nest) (V : Nests m e) (t : ℕ) (small 
 
   -- what the sweep of xs hands down to any narrower row
   handed : (xs : List Slot) (qs : List (List ℕ)) → AllBeside m xs qs → (n : ℕ) (q : List ℕ) (y : Slot)
-      → m.takes n ≡ true → m.Row n q → All (λ z. n ≤ z.ways) xs → leader xs ≡ Some y → First m n q y.row
+      → m.takes n ≡ true → m.Row n q → AllByRecursion (λ z. n ≤ z.ways) xs → leader xs ≡ Some y → First m n q y.row
       → Handed (sweep (step m e) xs t).slots (sweep (step m e) xs t).lead n q y
   handed [] [] b n q y tn Q low near first = absurd (none_some y near)
   handed [] (p ∷ ps) b n q y tn Q low near first = absurd b
@@ -178,7 +178,7 @@ module _ (m : Meaning) (L : Laws m) (e : Nest) (V : Nests m e) (t : ℕ) (small 
             stays = λ _. cut_first x p b.0.takes b.0.made y Y narrow first₀ l before n q tn Q low.0 first missed;
           }
 
-      follows : leads x ≡ false → ((n : ℕ) (q : List ℕ) (y : Slot) → m.takes n ≡ true → m.Row n q → All (λ z. n ≤ z.ways) xs → leader xs ≡ Some y → First m n q y.row → Handed (sweep (step m e) xs t).slots (sweep (step m e) xs t).lead n q y) → Tells xs n q y (step_follower m e x t (sweep (step m e) xs t).lead)
+      follows : leads x ≡ false → ((n : ℕ) (q : List ℕ) (y : Slot) → m.takes n ≡ true → m.Row n q → AllByRecursion (λ z. n ≤ z.ways) xs → leader xs ≡ Some y → First m n q y.row → Handed (sweep (step m e) xs t).slots (sweep (step m e) xs t).lead n q y) → Tells xs n q y (step_follower m e x t (sweep (step m e) xs t).lead)
       follows f ih =
           let near' : leader xs ≡ Some y = sym (leader_later x xs f) ∙ near in
           let H = ih n q y tn Q low.1 near' first in
@@ -195,7 +195,7 @@ module _ (m : Meaning) (L : Laws m) (e : Nest) (V : Nests m e) (t : ℕ) (small 
           by_way l is H H₀ near' first₀ (nests h d k s) = subst (Tells xs n q y) (sym s) (passes f false H l is)
           by_way l is H H₀ near' first₀ (leaves h d k s) = subst (Tells xs n q y) (sym s) (parts f H H₀ l is h d near' first₀)
 
-      go : (c : Bool) → leads x ≡ c → ((n : ℕ) (q : List ℕ) (y : Slot) → m.takes n ≡ true → m.Row n q → All (λ z. n ≤ z.ways) xs → leader xs ≡ Some y → First m n q y.row → Handed (sweep (step m e) xs t).slots (sweep (step m e) xs t).lead n q y)
+      go : (c : Bool) → leads x ≡ c → ((n : ℕ) (q : List ℕ) (y : Slot) → m.takes n ≡ true → m.Row n q → AllByRecursion (λ z. n ≤ z.ways) xs → leader xs ≡ Some y → First m n q y.row → Handed (sweep (step m e) xs t).slots (sweep (step m e) xs t).lead n q y)
           → Handed (sweep (step m e) (x ∷ xs) t).slots (sweep (step m e) (x ∷ xs) t).lead n q y
       go true h ih = subst (Tells xs n q y) (sym (step-leads m e x t (sweep (step m e) xs t).lead h)) (from_leader h)
       go false h ih = subst (Tells xs n q y) (sym (step_follows m e x t (sweep (step m e) xs t).lead h)) (follows h ih)
@@ -210,7 +210,7 @@ module _ (m : Meaning) (L : Laws m) (e : Nest) (V : Nests m e) (t : ℕ) (small 
     touched : m.Row x.ways (m.touch q t).row
     touched = L.touched x.ways q t b.takes b.made small
 
-    rises : All (λ y. x.ways ≤ y.ways) (sweep (step m e) xs t).slots
+    rises : AllByRecursion (λ y. x.ways ≤ y.ways) (sweep (step m e) xs t).slots
     rises = rising_kept m e t x.ways xs b.rising
 
     leader_kept : leads x ≡ true → Kept x xs q (touch_leader m x t)

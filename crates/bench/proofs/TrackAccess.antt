@@ -1,6 +1,6 @@
 -- A bench tracks the reference model over an access that passes, cached or not.
 use Rattle.std.proofs.Common.{◌≡◌, ℕ, zero, suc, ◌+◌, ◌^◌, ◌<◌, ◌≤◌, Bool, true, false, ltb, leb, ◌⊎◌, List, [], ◌∷◌, map, length, get_or, set, None, sym, refl, ap, ◌∙◌, subst, ap₂, subst₂, inl, inr, arith}
-use Rattle.std.specs.List.{AllByRecursion as All}
+use Rattle.std.specs.List.{AllByRecursion}
 use Rattle.std.proofs.ByRecursion.{All-weaker}
 use Rattle.std.proofs.lemmas.List.{get_or-set_other, get_or-set_same, length-set}
 use Rattle.std.proofs.lemmas.Bool.{cases_eq, cond-false, cond-true, leb-true, ltb-true}
@@ -65,7 +65,7 @@ module _ (s : Suite) (L : Lawful s) (m : Model) (b : Bench) (T : BenchTracks s m
   counted_is : counted x.kind false b.state.cached ≡ one_more x.kind b.state.cached
   counted_is = ap (set b.state.cached x.kind) (omega (arith, T.cached_few x.kind, P.room))
 
-  misses_low : All (λ c. get_or c.misses x.kind 0 < 4294967295) (line_caches m.families)
+  misses_low : AllByRecursion (λ c. get_or c.misses x.kind 0 < 4294967295) (line_caches m.families)
   misses_low = All-weaker (Summed b.state.cached) _ (λ c S. omega (arith, misses_at_most b.state.cached x.kind c S, T.cached_few x.kind, P.room)) (line_caches m.families) T.hits
 
   touched_tracks : Tracked s (length b.words) (touched s x m) (touch_state s x b)
@@ -79,9 +79,9 @@ module _ (s : Suite) (L : Lawful s) (m : Model) (b : Bench) (T : BenchTracks s m
           shape = families_shape s x fs ∙ T.shape;
           kept = families_touched s L x P.address fs T.kept;
           words = subst (λ v. FamiliesTrack s (map (touch_family s x) fs) v.words) (sym swept_is) (families_track s L x P.address last fs T.kept T.last b.words T.words);
-          last = λ a e. subst (λ c. All (HeldBy c) (map (touch_family s x) fs)) (cc) (held_touched s x fs T.kept);
+          last = λ a e. subst (λ c. AllByRecursion (HeldBy c) (map (touch_family s x) fs)) (cc) (held_touched s x fs T.kept);
           misses = ap₂ (all_counted x.kind) (ap (λ v. v.hits) swept_is ∙ families_hits s L x P.address last fs T.kept T.last b.words T.words) T.misses ∙ sym (misses_counted s x fs misses_low);
-          hits = subst (λ ns. All (Summed ns) (line_caches (map (touch_family s x) fs))) (sym counted_is) (sums_counted s x fs kinds T.hits);
+          hits = subst (λ ns. AllByRecursion (Summed ns) (line_caches (map (touch_family s x) fs))) (sym counted_is) (sums_counted s x fs kinds T.hits);
           windows = T.windows;
           accesses = ap (λ n. n + 1) T.accesses;
           uncached = T.uncached;

@@ -1,6 +1,6 @@
 -- The counts of the standalone caches after an access: one miss more where a line missed, and one hit more where it hit.
 use Rattle.std.proofs.Common.{◌≡◌, ℕ, zero, suc, ◌+◌, ◌<◌, min, Bool, true, false, cond, List, [], ◌∷◌, ◌++◌, map, length, get_or, set, refl, ap, ◌∙◌, ap₂, arith}
-use Rattle.std.specs.List.{AllByRecursion as All}
+use Rattle.std.specs.List.{AllByRecursion}
 use Rattle.std.proofs.lemmas.List.{length-set}
 use Rattle.standalone.specs.Cache.{Cache}
 use Rattle.standalone.specs.Counting.{one_more}
@@ -35,7 +35,7 @@ module _ (s : Suite) (x : Access) where
   all_count (f ∷ fs) = joined x.kind (levels_count f.block f.levels) (all_count fs)
 
 -- counts below the highest one
-misses_count : (kind : ℕ) {hs : List Bool} {cs ds : List Cache} → Counts kind hs cs ds → All (λ c. get_or c.misses kind 0 < 4294967295) cs → map (λ c. c.misses) ds ≡ all_counted kind hs (map (λ c. c.misses) cs)
+misses_count : (kind : ℕ) {hs : List Bool} {cs ds : List Cache} → Counts kind hs cs ds → AllByRecursion (λ c. get_or c.misses kind 0 < 4294967295) cs → map (λ c. c.misses) ds ≡ all_counted kind hs (map (λ c. c.misses) cs)
 misses_count kind none low = refl
 misses_count kind (more {h} {c} {d} {hs} {cs} {ds} em eh p) low =
     let below : get_or c.misses kind 0 + 1 ≡ min (get_or c.misses kind 0 + 1) 4294967295 = omega (arith, low.0) in
@@ -59,13 +59,13 @@ summed_more : (kind : ℕ) (cached : List ℕ) (h : Bool) (c d : Cache) → d.mi
 summed_more kind cached true c d em eh S = (ap length em ∙ S.0, ap length eh ∙ length-set c.hits kind _ ∙ S.1, ap₂ sums em eh ∙ sums_right kind c.misses c.hits ∙ ap (one_more kind) S.2)
 summed_more kind cached false c d em eh S = (ap length em ∙ length-set c.misses kind _ ∙ S.0, ap length eh ∙ S.1, ap₂ sums em eh ∙ sums_left kind c.misses c.hits ∙ ap (one_more kind) S.2)
 
-sums_count : (kind : ℕ) (cached : List ℕ) {hs : List Bool} {cs ds : List Cache} → Counts kind hs cs ds → All (Summed cached) cs → All (Summed (one_more kind cached)) ds
+sums_count : (kind : ℕ) (cached : List ℕ) {hs : List Bool} {cs ds : List Cache} → Counts kind hs cs ds → AllByRecursion (Summed cached) cs → AllByRecursion (Summed (one_more kind cached)) ds
 sums_count kind cached none S = tt
 sums_count kind cached (more {h} {c} {d} em eh p) S = (summed_more kind cached h c d em eh S.0, sums_count kind cached p S.1)
 
 module _ (s : Suite) (x : Access) (fs : List FamilyModel) where
-  pub misses_counted : All (λ c. get_or c.misses x.kind 0 < 4294967295) (line_caches fs) → map (λ c. c.misses) (line_caches (map (touch_family s x) fs)) ≡ all_counted x.kind (answers s x fs) (map (λ c. c.misses) (line_caches fs))
+  pub misses_counted : AllByRecursion (λ c. get_or c.misses x.kind 0 < 4294967295) (line_caches fs) → map (λ c. c.misses) (line_caches (map (touch_family s x) fs)) ≡ all_counted x.kind (answers s x fs) (map (λ c. c.misses) (line_caches fs))
   misses_counted low = misses_count x.kind (all_count s x fs) low
 
-  pub sums_counted : (cached : List ℕ) → All (Summed cached) (line_caches fs) → All (Summed (one_more x.kind cached)) (line_caches (map (touch_family s x) fs))
+  pub sums_counted : (cached : List ℕ) → AllByRecursion (Summed cached) (line_caches fs) → AllByRecursion (Summed (one_more x.kind cached)) (line_caches (map (touch_family s x) fs))
   sums_counted cached S = sums_count x.kind cached (all_count s x fs) S

@@ -1,6 +1,6 @@
 -- What a flush leaves of the reference model's caches: their counts, and what they are of. Their rows and tags are fresh.
 use Rattle.std.proofs.Common.{◌≡◌, ℕ, ◌+◌, cond, List, [], ◌∷◌, ◌++◌, map, length, refl, ap, ◌∙◌, ap₂}
-use Rattle.std.specs.List.{AllByRecursion as All}
+use Rattle.std.specs.List.{AllByRecursion}
 use Rattle.standalone.specs.Cache.{Cache}
 use Rattle.bench.specs.Suite.{Suite}
 use Rattle.bench.specs.Calls.{flush_family, flush_level, flush_line}
@@ -22,7 +22,7 @@ same_misses : {cs ds : List Cache} → SameCounts cs ds → map (λ c. c.misses)
 same_misses none = refl
 same_misses (more em eh p) = ap₂ (λ m ms. m ∷ ms) em (same_misses p)
 
-same-sums : (cached : List ℕ) {cs ds : List Cache} → SameCounts cs ds → All (Summed cached) cs → All (Summed cached) ds
+same-sums : (cached : List ℕ) {cs ds : List Cache} → SameCounts cs ds → AllByRecursion (Summed cached) cs → AllByRecursion (Summed cached) ds
 same-sums cached none S = tt
 same-sums cached (more em eh p) S = ((ap length em ∙ S.0.0, ap length eh ∙ S.0.1, ap₂ sums em eh ∙ S.0.2), same-sums cached p S.1)
 
@@ -43,7 +43,7 @@ module _ (s : Suite) where
   pub flushed_misses : (fs : List FamilyModel) → map (λ c. c.misses) (line_caches (map (flush_family s) fs)) ≡ map (λ c. c.misses) (line_caches fs)
   flushed_misses fs = same_misses (all_same fs)
 
-  pub flushed_sums : (cached : List ℕ) (fs : List FamilyModel) → All (Summed cached) (line_caches fs) → All (Summed cached) (line_caches (map (flush_family s) fs))
+  pub flushed_sums : (cached : List ℕ) (fs : List FamilyModel) → AllByRecursion (Summed cached) (line_caches fs) → AllByRecursion (Summed cached) (line_caches (map (flush_family s) fs))
   flushed_sums cached fs S = same-sums cached (all_same fs) S
 
   -- the comparisons stay
@@ -76,11 +76,11 @@ module _ (s : Suite) where
   flushed_shape [] = refl
   flushed_shape (f ∷ fs) = ap₂ (λ ls gs. record { block = f.block; levels = ls } ∷ gs) (levels_shape f.levels) (flushed_shape fs)
 
-  lines_fresh : (sets : ℕ) (zs : List LineModel) → All (FreshLine s sets) (map (flush_line s sets) zs)
+  lines_fresh : (sets : ℕ) (zs : List LineModel) → AllByRecursion (FreshLine s sets) (map (flush_line s sets) zs)
   lines_fresh sets [] = tt
   lines_fresh sets (z ∷ zs) = (refl, lines_fresh sets zs)
 
-  levels_fresh : (ls : List LevelModel) → All (FreshLevel s) (map (flush_level s) ls)
+  levels_fresh : (ls : List LevelModel) → AllByRecursion (FreshLevel s) (map (flush_level s) ls)
   levels_fresh [] = tt
   levels_fresh (l ∷ ls) = (record { tags = refl; lines = lines_fresh l.sets l.lines }, levels_fresh ls)
 

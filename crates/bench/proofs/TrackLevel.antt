@@ -3,7 +3,7 @@
 use Rattle.std.proofs.Common.{◌≡◌, ℕ, zero, suc, ◌+◌, ◌*◌, ◌/◌, ◌^◌, ◌<◌, ◌≤◌, Bool, true, false, cond, not, ◌&&◌, eqb, ◌⊎◌, List, [], ◌∷◌, ◌++◌, map, length, get_or, take, drop, set, Some, None, Option, sym, refl, ap, ◌∙◌, subst, ap₂, subst₂, inl, inr, arith}
 use mathlib.Core.List.{map-map}
 use lib.Seq.{take-set-lt}
-use Rattle.std.specs.List.{AllByRecursion as All}
+use Rattle.std.specs.List.{AllByRecursion}
 use Rattle.std.proofs.lemmas.List.{drop_at, get_or-set_other, get_or-set_same, get_or-take, length-append, length-drop, length-set, length-take-le, take_at}
 use Rattle.std.proofs.lemmas.Bool.{cases_eq, cond_both, cond-false, cond-true, eqb-true, leb-true, true≢false}
 use Rattle.geometry.specs.Address.{set_of, tag_of}
@@ -133,7 +133,7 @@ module _ (s : Suite) (b sets : ℕ) (x : Access) where
     abbrev RowsTouched : List LineModel → List ℕ → Type 0
     RowsTouched zs ws = own-rows (map (touch_line s b sets x) zs) ≡ rows_after s (tag_of x.address b sets) (swept-rows zs ws) (own-rows zs)
 
-    touched-rows : (zs : List LineModel) (ws : List ℕ) → All (LineKept s sets tags) zs → RowsTouched zs ws
+    touched-rows : (zs : List LineModel) (ws : List ℕ) → AllByRecursion (LineKept s sets tags) zs → RowsTouched zs ws
     touched-rows [] ws K = refl
     touched-rows (z ∷ zs) ws K = go (one_way z.kin) refl (λ ws. touched-rows zs ws K.1)
       where
@@ -149,7 +149,7 @@ module _ (s : Suite) (b sets : ℕ) (x : Access) where
       abbrev RowsFew : List LineModel → List ℕ → Type 0
       RowsFew zs ws = compared_of s (tag_of x.address b sets) (swept-rows zs ws) (own-rows zs) + cond (single zs) (asked (get_or tags (set_of x.address b sets) None)) 0 ≤ added s b sets x zs
 
-      rows_few : (zs : List LineModel) (ws : List ℕ) → All (LineKept s sets tags) zs → RowsFew zs ws
+      rows_few : (zs : List LineModel) (ws : List ℕ) → AllByRecursion (LineKept s sets tags) zs → RowsFew zs ws
       rows_few [] ws K = omega arith
       rows_few (z ∷ zs) ws K = go (one_way z.kin) refl (λ ws. rows_few zs ws K.1)
         where
@@ -161,7 +161,7 @@ module _ (s : Suite) (b sets : ℕ) (x : Access) where
       abbrev RowsHit : List LineModel → List ℕ → Type 0
       RowsHit zs ws = spread (map (λ z. z.kin) zs) (hits_of s (tag_of x.address b sets) (swept-rows zs ws) (own-rows zs)) ≡ map (line_hit s b sets x) zs
 
-      rows_hit : direct_answer (get_or tags (set_of x.address b sets) None) (tag_of x.address b sets) ≡ false → (zs : List LineModel) (ws : List ℕ) → All (LineKept s sets tags) zs → RowsHit zs ws
+      rows_hit : direct_answer (get_or tags (set_of x.address b sets) None) (tag_of x.address b sets) ≡ false → (zs : List LineModel) (ws : List ℕ) → AllByRecursion (LineKept s sets tags) zs → RowsHit zs ws
       rows_hit miss [] ws K = refl
       rows_hit miss (z ∷ zs) ws K = go (one_way z.kin) refl (λ ws. rows_hit miss zs ws K.1)
         where

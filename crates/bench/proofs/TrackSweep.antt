@@ -1,7 +1,7 @@
 -- An access at all levels: the sweep answers as the standalone caches, compares no more, and leaves words that stand beside the
 -- caches after the access. The levels that it skips hold the block already.
 use Rattle.std.proofs.Common.{◌≡◌, ℕ, ◌+◌, ◌/◌, ◌^◌, ◌<◌, ◌≤◌, Bool, true, List, [], ◌∷◌, ◌++◌, map, length, take, drop, Some, None, Option, sym, refl, ap, ◌∙◌, subst, ap₂, arith}
-use Rattle.std.specs.List.{AllByRecursion as All}
+use Rattle.std.specs.List.{AllByRecursion}
 use Rattle.std.proofs.lemmas.List.{drop_at, drop-drop, length-append, take-append-drop, take_at}
 use Rattle.std.proofs.lemmas.Bool.{cond_both, eqb-true, true≢false}
 use Rattle.geometry.specs.Address.{set_of, tag_of}
@@ -62,7 +62,7 @@ levels_joined s x b l ls v w V W =
     }
 
 module _ (s : Suite) (L : Lawful s) (x : Access) (small : x.address < 2 ^ 32) where
-  skipped_levels : (b : ℕ) (ls : List LevelModel) → LevelsKept s ls → All (λ l. Holds l (x.address / b)) ls → (ws : List ℕ) → LevelsTrack s ls ws → LevelsSwept s x b ls (skip (levels_hit (map level_of ls)) ws)
+  skipped_levels : (b : ℕ) (ls : List LevelModel) → LevelsKept s ls → AllByRecursion (λ l. Holds l (x.address / b)) ls → (ws : List ℕ) → LevelsTrack s ls ws → LevelsSwept s x b ls (skip (levels_hit (map level_of ls)) ws)
   skipped_levels b [] K H ws T = record { hits = refl; track = T; few = omega arith }
   skipped_levels b (l ∷ ls) K H ws T =
       let n = level_words l.sets (kins l) in
@@ -106,21 +106,21 @@ families_joined s x f fs ws v w T V W =
 
 -- the block of the last access is held
 held_alike : (a c : ℕ) (f : FamilyModel) → a / f.block ≡ c / f.block → HeldBy a f → HeldBy c f
-held_alike a c f same H = subst (λ k. All (λ l. Holds l k) f.levels) same H
+held_alike a c f same H = subst (λ k. AllByRecursion (λ l. Holds l k) f.levels) same H
 
 -- addresses in one block are so at all larger block sizes
-held_later : (a c : ℕ) (f : FamilyModel) (fs : List FamilyModel) → a / f.block ≡ c / f.block → All (Coarser f) fs → All (HeldBy a) fs → All (HeldBy c) fs
+held_later : (a c : ℕ) (f : FamilyModel) (fs : List FamilyModel) → a / f.block ≡ c / f.block → AllByRecursion (Coarser f) fs → AllByRecursion (HeldBy a) fs → AllByRecursion (HeldBy c) fs
 held_later a c f [] same C H = tt
 held_later a c f (g ∷ fs) same C H = (held_alike a c g (same_coarser a c f.block g.block C.0.factor C.0.multiple same) H.0, held_later a c f fs same C.1 H.1)
 
-block_held : (s : Suite) (c : ℕ) (f : FamilyModel) (fs : List FamilyModel) (last : Option ℕ) → FamiliesKept s (f ∷ fs) → HeldLast last (f ∷ fs) → same_block last c f.block ≡ true → All (HeldBy c) (f ∷ fs)
+block_held : (s : Suite) (c : ℕ) (f : FamilyModel) (fs : List FamilyModel) (last : Option ℕ) → FamiliesKept s (f ∷ fs) → HeldLast last (f ∷ fs) → same_block last c f.block ≡ true → AllByRecursion (HeldBy c) (f ∷ fs)
 block_held s c f fs None K held h = absurd (true≢false (sym h))
 block_held s c f fs (Some a) K held h =
     let same = eqb-true (a / f.block) (c / f.block) h in
     (held_alike a c f same (held a refl).0, held_later a c f fs same K.1.1.0 (held a refl).1)
 
 module _ (s : Suite) (L : Lawful s) (x : Access) (small : x.address < 2 ^ 32) where
-  skipped_families : (fs : List FamilyModel) → FamiliesKept s fs → All (HeldBy x.address) fs → (ws : List ℕ) → FamiliesTrack s fs ws → FamiliesSwept s x fs ws (skip (families_hit (map family_of fs)) ws)
+  skipped_families : (fs : List FamilyModel) → FamiliesKept s fs → AllByRecursion (HeldBy x.address) fs → (ws : List ℕ) → FamiliesTrack s fs ws → FamiliesSwept s x fs ws (skip (families_hit (map family_of fs)) ws)
   skipped_families [] K H ws T = record { hits = refl; track = tt; few = omega arith; whole = refl; beyond = refl }
   skipped_families (f ∷ fs) K H ws T =
       let n = levels_words (map level_of f.levels) in

@@ -1,7 +1,7 @@
 -- Caches without counts, as an open and a zero make them: they are as many as the lines of the table. What a zero leaves: rows and
 -- tags, so that the words still stand beside the caches.
 use Rattle.std.proofs.Common.{◌≡◌, ℕ, suc, ◌+◌, ◌*◌, cond, eqb, List, [], ◌∷◌, map, length, get_or, take, drop, sym, refl, ap, ◌∙◌, subst, ap₂, subst₂, arith}
-use Rattle.std.specs.List.{AllByRecursion as All}
+use Rattle.std.specs.List.{AllByRecursion}
 use Rattle.std.proofs.ByRecursion.{All-append, All-map, All-weaker}
 use Rattle.std.proofs.lemmas.List.{length-append, length-map}
 use Rattle.std.proofs.lemmas.Bool.{cond_both}
@@ -52,40 +52,40 @@ all_lines (f ∷ fs) = length-append (level_caches f.levels) (line_caches fs) �
 abbrev Uncounted : Cache → Type 0
 Uncounted c = (c.misses ≡ 0 ∷ 0 ∷ 0 ∷ []) × (c.hits ≡ 0 ∷ 0 ∷ 0 ∷ [])
 
-none_missed : (cs : List Cache) → All Uncounted cs → map (λ c. c.misses) cs ≡ no_misses (length cs)
+none_missed : (cs : List Cache) → AllByRecursion Uncounted cs → map (λ c. c.misses) cs ≡ no_misses (length cs)
 none_missed [] U = refl
 none_missed (c ∷ cs) U = ap₂ (λ m ms. m ∷ ms) U.0.0 (none_missed cs U.1)
 
-module _ (fs : List FamilyModel) (U : All Uncounted (line_caches fs)) where
+module _ (fs : List FamilyModel) (U : AllByRecursion Uncounted (line_caches fs)) where
   pub uncounted_misses : (cs : List Config) → map family_of fs ≡ families cs → no_misses (length cs) ≡ map (λ c. c.misses) (line_caches fs)
   uncounted_misses cs shape = sym (none_missed (line_caches fs) U ∙ ap no_misses (all_lines fs ∙ ap families_lines shape ∙ table_lines cs))
 
-  pub uncounted_sums : All (Summed (0 ∷ 0 ∷ 0 ∷ [])) (line_caches fs)
+  pub uncounted_sums : AllByRecursion (Summed (0 ∷ 0 ∷ 0 ∷ [])) (line_caches fs)
   uncounted_sums = All-weaker Uncounted (Summed (0 ∷ 0 ∷ 0 ∷ [])) (λ c u. (ap length u.0, ap length u.1, ap₂ sums u.0 u.1)) (line_caches fs) U
 
 -- new caches
-lines_new : (s : Suite) (sets : ℕ) (ks : List Kin) → All Uncounted (map (λ z. z.cache) (map (new_line s sets) ks))
+lines_new : (s : Suite) (sets : ℕ) (ks : List Kin) → AllByRecursion Uncounted (map (λ z. z.cache) (map (new_line s sets) ks))
 lines_new s sets [] = tt
 lines_new s sets (k ∷ ks) = ((refl, refl), lines_new s sets ks)
 
-levels_new : (s : Suite) (ls : List Level) → All Uncounted (level_caches (map (new_level s) ls))
+levels_new : (s : Suite) (ls : List Level) → AllByRecursion Uncounted (level_caches (map (new_level s) ls))
 levels_new s [] = tt
 levels_new s (l ∷ ls) = All-append Uncounted _ _ (lines_new s l.sets l.lines) (levels_new s ls)
 
-pub new_uncounted : (s : Suite) (fs : List Family) → All Uncounted (line_caches (map (new_family s) fs))
+pub new_uncounted : (s : Suite) (fs : List Family) → AllByRecursion Uncounted (line_caches (map (new_family s) fs))
 new_uncounted s [] = tt
 new_uncounted s (f ∷ fs) = All-append Uncounted _ _ (levels_new s f.levels) (new_uncounted s fs)
 
 -- those after a zero
-lines_zeroed : (zs : List LineModel) → All Uncounted (map (λ z. z.cache) (map zero_line zs))
+lines_zeroed : (zs : List LineModel) → AllByRecursion Uncounted (map (λ z. z.cache) (map zero_line zs))
 lines_zeroed [] = tt
 lines_zeroed (z ∷ zs) = ((refl, refl), lines_zeroed zs)
 
-levels_zeroed : (ls : List LevelModel) → All Uncounted (level_caches (map zero_level ls))
+levels_zeroed : (ls : List LevelModel) → AllByRecursion Uncounted (level_caches (map zero_level ls))
 levels_zeroed [] = tt
 levels_zeroed (l ∷ ls) = All-append Uncounted _ _ (lines_zeroed l.lines) (levels_zeroed ls)
 
-pub zero_uncounted : (fs : List FamilyModel) → All Uncounted (line_caches (map zero_family fs))
+pub zero_uncounted : (fs : List FamilyModel) → AllByRecursion Uncounted (line_caches (map zero_family fs))
 zero_uncounted [] = tt
 zero_uncounted (f ∷ fs) = All-append Uncounted _ _ (levels_zeroed f.levels) (zero_uncounted fs)
 
@@ -129,7 +129,7 @@ zero_kept s (f ∷ fs) K =
     let coarser = All-map _ zero_family fs (All-weaker (Coarser f) (λ g. Coarser (zero_family f) (zero_family g)) (λ g c. record { factor = c.factor; multiple = c.multiple }) fs K.1.1.0) in
     (K.0, (levels_kept s f.levels K.1.0, (coarser, zero_kept s fs K.1.1.1)))
 
-pub zero_held : (a : ℕ) (fs : List FamilyModel) → All (HeldBy a) fs → All (HeldBy a) (map zero_family fs)
+pub zero_held : (a : ℕ) (fs : List FamilyModel) → AllByRecursion (HeldBy a) fs → AllByRecursion (HeldBy a) (map zero_family fs)
 zero_held a fs H = All-map _ zero_family fs (All-weaker (HeldBy a) (λ f. HeldBy a (zero_family f)) (λ f h. All-map _ zero_level f.levels h) fs H)
 
 -- and the words stand beside them

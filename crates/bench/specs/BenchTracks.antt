@@ -1,6 +1,6 @@
 -- A bench and its workspace beside the reference model.
 use Rattle.std.specs.Prelude.{◌≡◌, ℕ, ◌<◌, ◌≤◌, map, length, None, slice_index}
-use Rattle.std.specs.List.{AllByRecursion as All}
+use Rattle.std.specs.List.{AllByRecursion}
 use Rattle.bench.specs.Suite.{Suite}
 use Rattle.bench.specs.Calls.{Model}
 use Rattle.bench.specs.Kept.{FamiliesKept, HeldLast}
@@ -22,7 +22,7 @@ pub record BenchTracks (s : Suite) (m : Model) (b : Bench) : Type 0 where
   pub last : HeldLast b.state.last m.families
   -- misses are those of the caches, and hits are the cached accesses without them
   pub misses : b.state.misses ≡ map (λ c. c.misses) (line_caches m.families)
-  pub hits : All (Summed b.state.cached) (line_caches m.families)
+  pub hits : AllByRecursion (Summed b.state.cached) (line_caches m.families)
   -- windows and totals are the same
   pub windows : b.state.windows ≡ m.windows
   pub accesses : b.state.accesses ≡ m.accesses

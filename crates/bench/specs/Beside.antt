@@ -1,6 +1,6 @@
 -- Swept rows beside the rows of the standalone caches, in one set.
 use Rattle.std.specs.Prelude.{◌≡◌, ℕ, ◌+◌, ◌≤◌, Bool, true, false, cond, List, [], ◌∷◌, map, take, Some, None, Option}
-use Rattle.std.specs.List.{AllByRecursion as All}
+use Rattle.std.specs.List.{AllByRecursion}
 use Rattle.policy.specs.Policy.{Meaning}
 use Rattle.bench.specs.Rows.{Slot, leads}
 
@@ -24,7 +24,7 @@ pub record Follows (m : Meaning) (x : Slot) (xs : List Slot) (q : List ℕ) : Ty
 pub record Beside (m : Meaning) (x : Slot) (xs : List Slot) (q : List ℕ) : Type 0 where
   pub takes : m.takes x.ways ≡ true
   pub made : m.Row x.ways q
-  pub rising : All (λ y. x.ways ≤ y.ways) xs
+  pub rising : AllByRecursion (λ y. x.ways ≤ y.ways) xs
   pub leading : leads x ≡ true → Leading m x q
   pub follows : leads x ≡ false → Follows m x xs q
 

@@ -1,7 +1,7 @@
 -- What holds in the reference model between calls, whatever was called before: each direct-mapped cache knows the tag that was
 -- last touched in each set, and where it would hit, so would every cache of its block size with at least as many sets.
 use Rattle.std.specs.Prelude.{◌≡◌, ℕ, ◌+◌, ◌*◌, ◌/◌, ◌%◌, ◌^◌, ◌<◌, true, List, [], ◌∷◌, length, Some, None, Option, slice_index_or}
-use Rattle.std.specs.List.{AllByRecursion as All}
+use Rattle.std.specs.List.{AllByRecursion}
 use Rattle.policy.specs.Policy.{Meaning}
 use Rattle.bench.specs.Suite.{Suite, meaning}
 use Rattle.bench.specs.Model.{FamilyModel, LevelModel, LineModel}
@@ -28,7 +28,7 @@ pub record LineKept (s : Suite) (sets : ℕ) (tags : List (Option ℕ)) (l : Lin
 pub record LevelKept (s : Suite) (l : LevelModel) : Type 0 where
   pub some : 0 < l.sets
   pub tags : length l.direct.tags ≡ l.sets
-  pub lines : All (LineKept s l.sets l.direct.tags) l.lines
+  pub lines : AllByRecursion (LineKept s l.sets l.direct.tags) l.lines
 
 -- the direct-mapped cache of a level would hit block k
 abbrev pub Holds : LevelModel → ℕ → Type 0
@@ -44,7 +44,7 @@ pub record Includes (l larger : LevelModel) : Type 0 where
 -- the levels of one block size
 abbrev pub LevelsKept : Suite → List LevelModel → Type 0
 LevelsKept s [] = Unit {0}
-LevelsKept s (l ∷ ls) = LevelKept s l × (All (Includes l) ls × LevelsKept s ls)
+LevelsKept s (l ∷ ls) = LevelKept s l × (AllByRecursion (Includes l) ls × LevelsKept s ls)
 
 -- block sizes of which each is a multiple of those before
 pub record Coarser (f larger : FamilyModel) : Type 0 where
@@ -54,12 +54,12 @@ pub record Coarser (f larger : FamilyModel) : Type 0 where
 -- all levels
 abbrev pub FamiliesKept : Suite → List FamilyModel → Type 0
 FamiliesKept s [] = Unit {0}
-FamiliesKept s (f ∷ fs) = (0 < f.block) × (LevelsKept s f.levels × (All (Coarser f) fs × FamiliesKept s fs))
+FamiliesKept s (f ∷ fs) = (0 < f.block) × (LevelsKept s f.levels × (AllByRecursion (Coarser f) fs × FamiliesKept s fs))
 
 -- an address whose block every direct-mapped cache would hit
 abbrev pub HeldBy : ℕ → FamilyModel → Type 0
-HeldBy address f = All (λ l. Holds l (address / f.block)) f.levels
+HeldBy address f = AllByRecursion (λ l. Holds l (address / f.block)) f.levels
 
 -- the last cached access, if there is one, would hit everywhere
 abbrev pub HeldLast : Option ℕ → List FamilyModel → Type 0
-HeldLast last fs = (a : ℕ) → last ≡ Some a → All (HeldBy a) fs
+HeldLast last fs = (a : ℕ) → last ≡ Some a → AllByRecursion (HeldBy a) fs

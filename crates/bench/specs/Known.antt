@@ -1,6 +1,6 @@
 -- Known passes: small runs of a bench of F, L and P whose outcome is worked out by hand.
 use Rattle.std.specs.Prelude.{◌≡◌, ℕ, List, [], ◌∷◌, map, replicate, Some, None, Option}
-use Rattle.std.specs.List.{AllByRecursion as All}
+use Rattle.std.specs.List.{AllByRecursion}
 use Rattle.policy.specs.Stack.{fifo_nest, lru_nest}
 use Rattle.policy.specs.Standard.{standard}
 use Rattle.geometry.specs.declared.line.Line.{Line}
@@ -144,4 +144,4 @@ known_passes = fifo_pass ∷ lru_pass ∷ window_pass ∷ short_pass ∷ []
 
 -- every known pass comes out as it must
 abbrev pub KnownPasses : Type 0
-KnownPasses = All Stands known_passes
+KnownPasses = AllByRecursion Stands known_passes

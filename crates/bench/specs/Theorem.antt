@@ -1,6 +1,6 @@
 -- What one pass is worth, over any list of calls.
 use Rattle.std.specs.Prelude.{◌≡◌, ℕ, ◌/◌, ◌≤◌, true, List, ◌∷◌, ◌++◌, length, None}
-use Rattle.std.specs.List.{AllByRecursion as All}
+use Rattle.std.specs.List.{AllByRecursion}
 use Rattle.standalone.specs.Counting.{one_more}
 use Rattle.standalone.specs.declared.access.Access.{Access}
 use Rattle.bench.specs.Suite.{Suite}
@@ -19,7 +19,7 @@ pub record AddsHit (s : Suite) (b sets : ℕ) (x : Access) (l : LineModel) : Typ
 -- where a level's direct-mapped cache hits, so does every line of its block size with at least as many sets
 abbrev pub DirectHits : Suite → Access → FamilyModel → Type 0
 DirectHits s x f =
-    All (λ l. Holds l (x.address / f.block) → All (λ k. l.sets ≤ k.sets → All (AddsHit s f.block k.sets x) k.lines) f.levels) f.levels
+    AllByRecursion (λ l. Holds l (x.address / f.block) → AllByRecursion (λ k. l.sets ≤ k.sets → AllByRecursion (AddsHit s f.block k.sets x) k.lines) f.levels) f.levels
 
 -- the calls cs, refused or not, of a new bench with this workspace
 pub record OnePass (s : Suite) (cs : List Do) (words : List ℕ) : Type 0 where
@@ -30,4 +30,4 @@ pub record OnePass (s : Suite) (cs : List Do) (words : List ℕ) : Type 0 where
   pub direct : (before after : List Do) (x : Access) → cs ≡ before ++ (access x ∷ after)
       → model_refusal s (length words) (model_run s (length words) before new_model) (access x) ≡ None
       → cached (model_run s (length words) before new_model).windows x.address ≡ true
-      → All (DirectHits s x) (model_run s (length words) before new_model).families
+      → AllByRecursion (DirectHits s x) (model_run s (length words) before new_model).families

@@ -5,7 +5,7 @@ use Rattle.std.proofs.Math.Nat.{zero-div, zero-mod, mod-le}
 use Rattle.std.proofs.lemmas.Nat.{and_block, and_mask, or_block, mod-pow-add}
 use Rattle.std.specs.Int.Bits.{or_shifted_r, or_zero_r}
 use Rattle.std.proofs.Math.Pow.{split, mod-mod-pow, high_ones}
-use Rattle.std.specs.List.{AllByRecursion as All}
+use Rattle.std.specs.List.{AllByRecursion}
 use Rattle.policy.specs.Plru.{bit, bits, with_bit}
 
 -- `word & !(1 << k)` clears bit k
@@ -53,17 +53,17 @@ bit_le n j = omega (arith, mod-pow-add n 1 j, mod-le n (2 ^ (1 + j)))
 with_bit-suc : (x n j b : ℕ) → x < 2 → with_bit (x + 2 * n) (suc j) b ≡ x + 2 * with_bit n j b
 with_bit-suc x n j b l = rw (bit-suc x n j l, pow-suc, ← mul_assoc (bit n j), ← mul_assoc b) (omega (arith, bit_le n j))
 
-pub bit-bits : (l : List ℕ) (j : ℕ) → All (λ b. b < 2) l → bit (bits l) j ≡ slice_index l j
+pub bit-bits : (l : List ℕ) (j : ℕ) → AllByRecursion (λ b. b < 2) l → bit (bits l) j ≡ slice_index l j
 bit-bits [] j h = simp (zero-div, zero-mod)
 bit-bits (b ∷ bs) zero h = simp div-one (head b (bits bs) h.0)
 bit-bits (b ∷ bs) (suc j) h = bit-suc b (bits bs) j h.0 ∙ bit-bits bs j h.1
 
-pub with_bit-bits : (l : List ℕ) (j b : ℕ) → j < length l → All (λ b. b < 2) l → with_bit (bits l) j b ≡ bits (slice_set l j b)
+pub with_bit-bits : (l : List ℕ) (j b : ℕ) → j < length l → AllByRecursion (λ b. b < 2) l → with_bit (bits l) j b ≡ bits (slice_set l j b)
 with_bit-bits [] j b i h = absurd (omega arith)
 with_bit-bits (x ∷ xs) zero b i h = let e = bit-bits (x ∷ xs) 0 h in omega arith
 with_bit-bits (x ∷ xs) (suc j) b i h =
     with_bit-suc x (bits xs) j b h.0 ∙ ap (λ (n : ℕ). x + 2 * n) (with_bit-bits xs j b (omega arith) h.1)
 
-pub bits_lt : (l : List ℕ) → All (λ b. b < 2) l → bits l < 2 ^ length l
+pub bits_lt : (l : List ℕ) → AllByRecursion (λ b. b < 2) l → bits l < 2 ^ length l
 bits_lt [] h = omega arith
 bits_lt (x ∷ xs) h = rw pow-suc (omega (arith, bits_lt xs h.1))

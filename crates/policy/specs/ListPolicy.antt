@@ -1,7 +1,7 @@
 -- What a policy on the list of residents keeps, and that FIFO and LRU keep it.
 use Rattle.std.specs.Prelude.{◌≡◌, ℕ, zero, suc, ◌^◌, ◌<◌, ◌≤◌, Bool, true, false, cond, List, [], ◌∷◌, length, take, ◌≢◌, nat_eq, refl}
 use Rattle.std.proofs.Common.{sym, ap, ◌∙◌, arith}
-use Rattle.std.specs.List.{AllByRecursion as All}
+use Rattle.std.specs.List.{AllByRecursion}
 use Rattle.std.proofs.lemmas.List.{length-take, take-take}
 use Rattle.std.proofs.ByRecursion.{All-take}
 use Rattle.std.proofs.lemmas.Bool.{true≢false, eq-eqb, cond-true, cond-false, cond_both}
@@ -22,7 +22,7 @@ pub record Keeps (P : ListPolicy) : Type 0 where
   pub grows : (a t : ℕ) (rs : List ℕ) → length rs ≤ a → length rs ≤ length (P a rs t)
   pub few : (a t : ℕ) (rs : List ℕ) → length rs ≤ a → length (P a rs t) ≤ a
   pub distinct : (a t : ℕ) (rs : List ℕ) → Distinct rs → Distinct (P a rs t)
-  pub width : (a t : ℕ) (rs : List ℕ) → All (λ w. w < 2 ^ 32) rs → t < 2 ^ 32 → All (λ w. w < 2 ^ 32) (P a rs t)
+  pub width : (a t : ℕ) (rs : List ℕ) → AllByRecursion (λ w. w < 2 ^ 32) rs → t < 2 ^ 32 → AllByRecursion (λ w. w < 2 ^ 32) (P a rs t)
   pub kept : (a t : ℕ) (rs : List ℕ) → 1 ≤ a → member t (P a rs t) ≡ true
   pub known : (a t u : ℕ) (rs : List ℕ) → (u ≢ t) → member u (P a rs t) ≡ true → member u rs ≡ true
   pub again : (a t : ℕ) (rs : List ℕ) → 1 ≤ a → P a (P a rs t) t ≡ P a rs t
@@ -31,7 +31,7 @@ pub record Keeps (P : ListPolicy) : Type 0 where
 record KeepsHit (onHit : List ℕ → ℕ → List ℕ) : Type 0 where
   same : (t : ℕ) (rs : List ℕ) → member t rs ≡ true → length (onHit rs t) ≡ length rs
   distinct : (t : ℕ) (rs : List ℕ) → Distinct rs → Distinct (onHit rs t)
-  width : (t : ℕ) (rs : List ℕ) → All (λ w. w < 2 ^ 32) rs → t < 2 ^ 32 → All (λ w. w < 2 ^ 32) (onHit rs t)
+  width : (t : ℕ) (rs : List ℕ) → AllByRecursion (λ w. w < 2 ^ 32) rs → t < 2 ^ 32 → AllByRecursion (λ w. w < 2 ^ 32) (onHit rs t)
   kept : (t : ℕ) (rs : List ℕ) → member t rs ≡ true → member t (onHit rs t) ≡ true
   known : (t u : ℕ) (rs : List ℕ) → (u ≢ t) → member u (onHit rs t) ≡ true → member u rs ≡ true
 
@@ -49,8 +49,8 @@ module _ (onHit : List ℕ → ℕ → List ℕ) (h : KeepsHit onHit) where
   hit_distinct : (a t : ℕ) (rs : List ℕ) → Distinct rs → Distinct (by_hit onHit a rs t)
   hit_distinct a t rs d = cond_both (member t rs) (onHit rs t) (take a (t ∷ rs)) Distinct (λ m. h.distinct t rs d) (λ m. distinct_take a (t ∷ rs) (m, d))
 
-  hit_width : (a t : ℕ) (rs : List ℕ) → All (λ w. w < 2 ^ 32) rs → t < 2 ^ 32 → All (λ w. w < 2 ^ 32) (by_hit onHit a rs t)
-  hit_width a t rs w l = cond_both (member t rs) (onHit rs t) (take a (t ∷ rs)) (All (λ w. w < 2 ^ 32)) (λ m. h.width t rs w l) (λ m. All-take (λ w. w < 2 ^ 32) a (t ∷ rs) (l, w))
+  hit_width : (a t : ℕ) (rs : List ℕ) → AllByRecursion (λ w. w < 2 ^ 32) rs → t < 2 ^ 32 → AllByRecursion (λ w. w < 2 ^ 32) (by_hit onHit a rs t)
+  hit_width a t rs w l = cond_both (member t rs) (onHit rs t) (take a (t ∷ rs)) (AllByRecursion (λ w. w < 2 ^ 32)) (λ m. h.width t rs w l) (λ m. All-take (λ w. w < 2 ^ 32) a (t ∷ rs) (l, w))
 
   hit_kept : (a t : ℕ) (rs : List ℕ) → 1 ≤ a → member t (by_hit onHit a rs t) ≡ true
   hit_kept a t rs l = cond_both (member t rs) (onHit rs t) (take a (t ∷ rs)) (λ ys. member t ys ≡ true) (λ m. h.kept t rs m) (λ m. member_front a t rs l)

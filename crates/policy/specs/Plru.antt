@@ -1,7 +1,7 @@
 -- Tree PLRU: a complete binary tree whose inner nodes hold flags and whose leaves are the ways, and the words of a row.
 -- Node 1 is the root, and node k has the children 2k (left) and 2k + 1 (right). A flag 0 points left, 1 right.
 use Rattle.std.specs.Prelude.{◌≡◌, ℕ, zero, suc, ◌+◌, ◌-◌, ◌*◌, ◌/◌, ◌%◌, ◌^◌, ◌<◌, ◌≤◌, Bool, false, cond, ◌||◌, List, [], ◌∷◌, ◌++◌, map, length, replicate, Some, None, Option, ◌==◌, nat_lt, slice_index, slice_set}
-use Rattle.std.specs.List.{range_with_len, AllByRecursion as All}
+use Rattle.std.specs.List.{range_with_len, AllByRecursion}
 use Rattle.policy.specs.Search.{member, place, Distinct}
 use Rattle.policy.specs.Policy.{Meaning, Touched}
 
@@ -78,10 +78,10 @@ pub record Whole (a : ℕ) (T : Tree) : Type 0 where
   pub leaves : 2 ^ T.depth ≡ a
   pub shallow : T.depth ≤ 4
   pub flag_count : length T.flags + 1 ≡ a
-  pub flag_bits : All (λ b. b < 2) T.flags
+  pub flag_bits : AllByRecursion (λ b. b < 2) T.flags
   pub leaf_count : length T.leaves ≡ a
   pub distinct : Distinct (tags_of T.leaves)
-  pub width : All (λ t. t < 2 ^ 32) (tags_of T.leaves)
+  pub width : AllByRecursion (λ t. t < 2 ^ 32) (tags_of T.leaves)
 
 -- a row that tree PLRU made: a whole tree, laid out
 pub record Treed (a : ℕ) (r : List ℕ) : Type 0 where

@@ -2,7 +2,7 @@
 use Rattle.std.specs.Prelude.{◌≡◌, ℕ, zero, suc, ◌+◌, ◌-◌, ◌^◌, ◌<◌, ◌≤◌, true, ◌||◌, List, [], ◌∷◌, ◌++◌, map, length, replicate, None, ◌==◌, refl}
 use Rattle.std.proofs.Common.{sym, ap, ap₂, subst, ◌∙◌, ⊎_elim, add-one, arith}
 use lib.LanesLaws.{map-replicate}
-use Rattle.std.specs.List.{AllByRecursion as All}
+use Rattle.std.specs.List.{AllByRecursion}
 use Rattle.std.proofs.ByRecursion.{All-append, All-map}
 use Rattle.std.proofs.lemmas.List.{length-replicate}
 use Rattle.std.proofs.lemmas.Bool.{eqb-true, or_cases}
@@ -30,7 +30,7 @@ fresh_tags : (n : ℕ) → tags_of (replicate n None) ≡ []
 fresh_tags zero = refl
 fresh_tags (suc n) = fresh_tags n
 
-bits-zero : (l : List ℕ) → All (λ b. b ≡ 0) l → bits l ≡ 0
+bits-zero : (l : List ℕ) → AllByRecursion (λ b. b ≡ 0) l → bits l ≡ 0
 bits-zero [] h = refl
 bits-zero (b ∷ bs) h = omega (arith, bits-zero bs h.1, h.0)
 
@@ -77,7 +77,7 @@ plru_lawful = record {
   started = λ a h. record { tree = fresh a; whole = whole_fresh a h; laid = laid-fresh a h };
   empty = λ a h. ap tree_residents (laid-fresh a h) ∙ residents_laid a (fresh a) (whole_fresh a h) ∙ fresh_tags a;
   words = λ a r h x. on_row (λ r. length r ≡ a + 1) a r x (length_laid a);
-  width = λ a r h x. on_row (All (λ w. w < 2 ^ 32)) a r x (width_laid a);
+  width = λ a r h x. on_row (AllByRecursion (λ w. w < 2 ^ 32)) a r x (width_laid a);
   few = λ a r h x. on_row (λ r. length (tree_residents r) ≤ a) a r x (λ T w. rw (residents_laid a T w) (omega (arith, tags_few T.leaves, w.leaf_count)));
   distinct = λ a r h x. on_row (λ r. Distinct (tree_residents r)) a r x (λ T w. rw (residents_laid a T w) w.distinct);
   touched = λ a r t h x l. on_row (λ r. Treed a (touch_row r t).row) a r x (λ T w. record { tree = touch_tree T t; whole = whole_touched a t T w l; laid = row_touched a t T w });

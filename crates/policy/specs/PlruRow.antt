@@ -1,7 +1,7 @@
 -- Rows of PLRU: the tree that a row holds, and a touch of the row as a touch of the tree.
 use Rattle.std.specs.Prelude.{◌≡◌, ℕ, zero, suc, ◌+◌, ◌-◌, ◌*◌, ◌%◌, ◌^◌, ◌<◌, ◌≤◌, Bool, false, cond, List, [], ◌∷◌, ◌++◌, map, length, take, drop, set, replicate, Some, None, Option, ◌==◌, nat_lt, slice_index, slice_index_or, slice_set, refl}
 use Rattle.std.proofs.Common.{sym, ap, ap₂, ◌∙◌, one-add, arith, pow_mono, pow_pos}
-use Rattle.std.specs.List.{range_with_len, AllByRecursion as All}
+use Rattle.std.specs.List.{range_with_len, AllByRecursion}
 use Rattle.std.proofs.lemmas.List.FromFn.{fill_by_all, get_or-map-range_with_len, length-map-range_with_len}
 use Rattle.std.proofs.ByRecursion.{All-append, All-from_get_or}
 use Rattle.std.proofs.lemmas.Nat.{one_shl}
@@ -90,12 +90,12 @@ depth_of_pow (suc (suc (suc zero))) h = refl
 depth_of_pow (suc (suc (suc (suc zero)))) h = refl
 depth_of_pow (suc (suc (suc (suc (suc d))))) h = absurd (omega arith)
 
-filled-bits : (ls : List (Option ℕ)) → All (λ b. b < 2) (map filled ls)
+filled-bits : (ls : List (Option ℕ)) → AllByRecursion (λ b. b < 2) (map filled ls)
 filled-bits [] = tt
 filled-bits (None ∷ ls) = (omega arith, filled-bits ls)
 filled-bits (Some t ∷ ls) = (omega arith, filled-bits ls)
 
-leaf_words : (ls : List (Option ℕ)) → All (λ t. t < 2 ^ 32) (tags_of ls) → All (λ t. t < 2 ^ 32) (map leaf_word ls)
+leaf_words : (ls : List (Option ℕ)) → AllByRecursion (λ t. t < 2 ^ 32) (tags_of ls) → AllByRecursion (λ t. t < 2 ^ 32) (map leaf_word ls)
 leaf_words [] h = tt
 leaf_words (None ∷ ls) h = (omega arith, leaf_words ls h)
 leaf_words (Some t ∷ ls) h = (h.0, leaf_words ls h.1)
@@ -104,7 +104,7 @@ leaf_words (Some t ∷ ls) h = (h.0, leaf_words ls h.1)
 abbrev upper : ℕ → List (Option ℕ) → List ℕ
 upper n ls = replicate (16 - n) 0 ++ map filled ls
 
-upper-bits : (n : ℕ) (ls : List (Option ℕ)) → All (λ b. b < 2) (upper n ls)
+upper-bits : (n : ℕ) (ls : List (Option ℕ)) → AllByRecursion (λ b. b < 2) (upper n ls)
 upper-bits n ls = All-append (λ b. b < 2) (replicate (16 - n) 0) (map filled ls) (all_replicate (λ b. b < 2) (16 - n) 0 (omega arith)) (filled-bits ls)
 
 -- what stands at a leaf
@@ -120,7 +120,7 @@ module _ (a : ℕ) (T : Tree) (w : Whole a T) where
   flags_le : length T.flags ≤ 15
   flags_le = omega (arith, pow_mono w.shallow)
 
-  digit_bits : All (λ b. b < 2) (digits T.flags T.leaves)
+  digit_bits : AllByRecursion (λ b. b < 2) (digits T.flags T.leaves)
   digit_bits = All-append (λ b. b < 2) T.flags (upper (length T.flags) T.leaves) w.flag_bits (upper-bits (length T.flags) T.leaves)
 
   digit_count : length (digits T.flags T.leaves) ≡ 16 + a
@@ -189,7 +189,7 @@ module _ (a : ℕ) (T : Tree) (w : Whole a T) where
   pub length_laid : length (tree_layout T) ≡ a + 1
   length_laid = omega (arith, length-map T.leaves leaf_word, w.leaf_count)
 
-  pub width_laid : All (λ x. x < 2 ^ 32) (tree_layout T)
+  pub width_laid : AllByRecursion (λ x. x < 2 ^ 32) (tree_layout T)
   width_laid =
       let few : 16 + a ≤ 32 = omega (arith, pow_mono w.shallow, w.leaves) in (
         omega (arith, bits_lt (digits T.flags T.leaves) digit_bits, ap (λ (n : ℕ). 2 ^ n) digit_count, pow_mono few),

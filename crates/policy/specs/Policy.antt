@@ -1,6 +1,6 @@
 -- What a replacement policy means, and the laws that every policy keeps.
 use Rattle.std.specs.Prelude.{◌≡◌, ℕ, ◌+◌, ◌^◌, ◌<◌, ◌≤◌, Bool, true, List, [], length, ◌≢◌}
-use Rattle.std.specs.List.{AllByRecursion as All}
+use Rattle.std.specs.List.{AllByRecursion}
 use Rattle.policy.specs.Search.{member, place, Distinct}
 
 -- What a touch gives.
@@ -39,7 +39,7 @@ pub record Laws (m : Meaning) : Type 0 where
   pub empty : (a : ℕ) → m.takes a ≡ true → m.residents (m.start (a + 1)) ≡ []
   -- a row has a + 1 words of 32 bits
   pub words : (a : ℕ) (r : List ℕ) → m.takes a ≡ true → m.Row a r → length r ≡ a + 1
-  pub width : (a : ℕ) (r : List ℕ) → m.takes a ≡ true → m.Row a r → All (λ w. w < 2 ^ 32) r
+  pub width : (a : ℕ) (r : List ℕ) → m.takes a ≡ true → m.Row a r → AllByRecursion (λ w. w < 2 ^ 32) r
   -- at most a residents, none twice
   pub few : (a : ℕ) (r : List ℕ) → m.takes a ≡ true → m.Row a r → length (m.residents r) ≤ a
   pub distinct : (a : ℕ) (r : List ℕ) → m.takes a ≡ true → m.Row a r → Distinct (m.residents r)

@@ -1,7 +1,7 @@
 -- What FIFO and LRU do to a list of residents: the facts behind the laws.
 use Rattle.std.specs.Prelude.{◌≡◌, ℕ, zero, suc, ◌<◌, ◌≤◌, Bool, true, false, List, [], ◌∷◌, ◌++◌, length, take, drop, ◌==◌, nat_eq, refl}
 use Rattle.std.proofs.Common.{sym, ap, ◌∙◌, arith}
-use Rattle.std.specs.List.{AllByRecursion as All}
+use Rattle.std.specs.List.{AllByRecursion}
 use Rattle.std.proofs.lemmas.Bool.{true≢false, eqb-true}
 use Rattle.policy.specs.Search.{member, place, Distinct}
 use Rattle.policy.specs.Stack.{without}
@@ -51,11 +51,11 @@ distinct_without t (x ∷ xs) d = go (t == x) refl (distinct_without t xs d.1)
     go true e ih = rw (without_here t x xs e) d.1
     go false e ih = rw (without_later t x xs e) (absent_without x t xs d.0, ih)
 
-pub all_without : (P : ℕ → Type 0) (t : ℕ) (xs : List ℕ) → All P xs → All P (without t xs)
+pub all_without : (P : ℕ → Type 0) (t : ℕ) (xs : List ℕ) → AllByRecursion P xs → AllByRecursion P (without t xs)
 all_without P t [] h = tt
 all_without P t (x ∷ xs) h = go (t == x) refl (all_without P t xs h.1)
   where
-    go : (b : Bool) → (t == x) ≡ b → All P (without t xs) → All P (without t (x ∷ xs))
+    go : (b : Bool) → (t == x) ≡ b → AllByRecursion P (without t xs) → AllByRecursion P (without t (x ∷ xs))
     go true e ih = rw (without_here t x xs e) h.1
     go false e ih = rw (without_later t x xs e) (h.0, ih)
 

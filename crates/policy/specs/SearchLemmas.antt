@@ -1,7 +1,7 @@
 -- Facts about a search through a list of tags, and one about all elements of a list.
 use Rattle.std.specs.Prelude.{◌≡◌, ℕ, zero, suc, ◌<◌, ◌≤◌, Bool, true, false, List, [], ◌∷◌, length, take, replicate, ◌==◌, ◌≢◌, nat_eq, refl}
 use Rattle.std.proofs.Common.{sym, ap, ◌∙◌, ⊎_elim, arith}
-use Rattle.std.specs.List.{AllByRecursion as All}
+use Rattle.std.specs.List.{AllByRecursion}
 use Rattle.std.proofs.lemmas.Bool.{both_ways, cases_Bool, or_parts, true≢false, eq-eqb, ne_eqb}
 use Rattle.policy.specs.Search.{member, place, Distinct}
 
@@ -29,7 +29,7 @@ member_other t x xs o m = sym (member_later t x xs (ne_eqb t x o)) ∙ m
 pub member_not : (t : ℕ) (xs ys : List ℕ) → (member t ys ≡ true → member t xs ≡ true) → member t xs ≡ false → member t ys ≡ false
 member_not t xs ys f h = ⊎_elim (λ e. absurd (both_ways (member t xs) h (f e))) (λ e. e) (cases_Bool (member t ys))
 
-pub all_replicate : {X : Type 0} (P : X → Type 0) (n : ℕ) (x : X) → P x → All P (replicate n x)
+pub all_replicate : {X : Type 0} (P : X → Type 0) (n : ℕ) (x : X) → P x → AllByRecursion P (replicate n x)
 all_replicate P zero x p = tt
 all_replicate P (suc n) x p = (p, all_replicate P n x p)
 

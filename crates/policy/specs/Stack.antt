@@ -1,6 +1,6 @@
 -- FIFO and LRU: what each does to the list of residents, and the words of a row.
 use Rattle.std.specs.Prelude.{◌≡◌, ℕ, ◌-◌, ◌^◌, ◌<◌, ◌≤◌, min, Bool, true, false, cond, ◌&&◌, List, [], ◌∷◌, ◌++◌, length, take, drop, replicate, ◌==◌, nat_le}
-use Rattle.std.specs.List.{AllByRecursion as All}
+use Rattle.std.specs.List.{AllByRecursion}
 use Rattle.policy.specs.Search.{member, place, Distinct}
 use Rattle.policy.specs.Policy.{Meaning, Touched}
 use Rattle.policy.specs.Nesting.{Nest}
@@ -57,7 +57,7 @@ pub record Stacked (a : ℕ) (r : List ℕ) : Type 0 where
   pub tags : List ℕ
   pub few : length tags ≤ a
   pub distinct : Distinct tags
-  pub width : All (λ w. w < 2 ^ 32) tags
+  pub width : AllByRecursion (λ w. w < 2 ^ 32) tags
   pub laid : r ≡ layout a tags
 
 -- 1 to 16 ways

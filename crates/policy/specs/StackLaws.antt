@@ -2,7 +2,7 @@
 use Rattle.std.specs.Prelude.{◌≡◌, ℕ, zero, suc, ◌+◌, ◌-◌, ◌^◌, ◌<◌, ◌≤◌, min, Bool, true, false, List, [], ◌∷◌, ◌++◌, length, take, drop, replicate, nat_le, slice_set, refl}
 use Rattle.std.proofs.Common.{sym, ap, ◌∙◌, subst, add-one, arith, ⊎_elim}
 use borrow.Rule.Slice.PartMut.{put_mid}
-use Rattle.std.specs.List.{AllByRecursion as All}
+use Rattle.std.specs.List.{AllByRecursion}
 use Rattle.std.proofs.lemmas.List.{take_at, drop_at, drop-drop, drop-replicate, length-append, length-replicate, length-take, take_all, take-take}
 use Rattle.std.proofs.ByRecursion.{All-append, All-take}
 use Rattle.std.proofs.lemmas.Bool.{and_parts, leb-true, cases_lt}
@@ -63,7 +63,7 @@ module _ (a : ℕ) (takes : one_to_sixteen a ≡ true) (r : List ℕ) (s : Stack
   row_words : length r ≡ a + 1
   row_words = ap length s.laid ∙ omega (arith, length_words a s.tags s.few)
 
-  row_width : All (λ w. w < 2 ^ 32) r
+  row_width : AllByRecursion (λ w. w < 2 ^ 32) r
   row_width = let f = s.few in let b : length s.tags < 2 ^ 32 = omega (arith, (ways_bounds a takes).1) in
       rw s.laid (b, All-append (λ w. w < 2 ^ 32) s.tags (replicate (a - length s.tags) 0) s.width (all_replicate (λ w. w < 2 ^ 32) (a - length s.tags) 0 (omega arith)))
 
@@ -201,7 +201,7 @@ module _ (letter : ℕ) (P : ListPolicy) (K : Keeps P) (keeps : Bool) (V : Narro
         tags = take n (residents_of W);
         few = omega (arith, length-take n (residents_of W));
         distinct = distinct_take n (residents_of W) (subst Distinct (sym (tags_are w l W s)) s.distinct);
-        width = All-take (λ x. x < 2 ^ 32) n (residents_of W) (subst (All (λ x. x < 2 ^ 32)) (sym (tags_are w l W s)) s.width);
+        width = All-take (λ x. x < 2 ^ 32) n (residents_of W) (subst (AllByRecursion (λ x. x < 2 ^ 32)) (sym (tags_are w l W s)) s.width);
         laid = truncate_laid n W;
       },
       ap residents_of (truncate_laid n W) ∙ residents_laid n (take n (residents_of W)),

@@ -1,7 +1,7 @@
 -- The tree of PLRU: the levels of its nodes, the way that the flags lead, and the search through its leaves.
 use Rattle.std.specs.Prelude.{◌≡◌, ℕ, zero, suc, ◌+◌, ◌-◌, ◌*◌, ◌/◌, ◌%◌, ◌^◌, ◌<◌, ◌≤◌, true, false, List, [], ◌∷◌, ◌++◌, map, length, drop, set, Some, None, Option, ◌==◌, ◌≢◌, slice_index, slice_index_or, slice_set, refl}
 use Rattle.std.proofs.Common.{sym, ap, ◌∙◌, ⊎_elim, add-zero, zero-add, pow-suc, arith, pow-add, pow_pos, pow_mono}
-use Rattle.std.specs.List.{range_with_len, AllByRecursion as All}
+use Rattle.std.specs.List.{range_with_len, AllByRecursion}
 use Rattle.std.proofs.ByRecursion.{All-append, All-set}
 use Rattle.std.proofs.lemmas.List.FromFn.{get_or-map-range_with_len}
 use Rattle.std.proofs.lemmas.List.{drop_more, drop_all, length-append, length-set, set-append_left, set-set, set_comm}
@@ -53,7 +53,7 @@ pub length-away : (flags : List ℕ) (d n : ℕ) → length (away flags d n) ≡
 length-away flags zero n = refl
 length-away flags (suc d) n = length-away (slice_set flags (n / 2 - 1) (1 - n % 2)) d (n / 2) ∙ length-set flags (n / 2 - 1) (1 - n % 2)
 
-pub away-bits : (flags : List ℕ) (d n : ℕ) → All (λ b. b < 2) flags → All (λ b. b < 2) (away flags d n)
+pub away-bits : (flags : List ℕ) (d n : ℕ) → AllByRecursion (λ b. b < 2) flags → AllByRecursion (λ b. b < 2) (away flags d n)
 away-bits flags zero n h = h
 away-bits flags (suc d) n h = away-bits (slice_set flags (n / 2 - 1) (1 - n % 2)) d (n / 2) (All-set (λ b. b < 2) flags (n / 2 - 1) (1 - n % 2) (omega arith) h)
 
@@ -78,7 +78,7 @@ away_again flags (suc d) n h =
     ∙ away_again (slice_set flags (n / 2 - 1) (1 - n % 2)) d (n / 2) up
 
 -- the flags in a head word, before other bits
-pub away_word-bits : (flags rest : List ℕ) (d n : ℕ) → 2 ^ d ≤ length flags + 1 → Level d n → All (λ b. b < 2) flags → All (λ b. b < 2) rest → away_word (bits (flags ++ rest)) d n ≡ bits (away flags d n ++ rest)
+pub away_word-bits : (flags rest : List ℕ) (d n : ℕ) → 2 ^ d ≤ length flags + 1 → Level d n → AllByRecursion (λ b. b < 2) flags → AllByRecursion (λ b. b < 2) rest → away_word (bits (flags ++ rest)) d n ≡ bits (away flags d n ++ rest)
 away_word-bits flags rest zero n w l h k = refl
 away_word-bits flags rest (suc d) n w l h k =
     let up = level_parent d n l in
@@ -91,18 +91,18 @@ away_word-bits flags rest (suc d) n w l h k =
 
 -- the leaf that flags lead to
 
-flag_lt : (flags : List ℕ) (j : ℕ) → All (λ b. b < 2) flags → slice_index flags j < 2
+flag_lt : (flags : List ℕ) (j : ℕ) → AllByRecursion (λ b. b < 2) flags → slice_index flags j < 2
 flag_lt [] j h = omega arith
 flag_lt (b ∷ bs) zero h = h.0
 flag_lt (b ∷ bs) (suc j) h = flag_lt bs j h.1
 
-follow_level : (flags : List ℕ) (d k n : ℕ) → All (λ b. b < 2) flags → Level k n → Level (k + d) (follow flags d n)
+follow_level : (flags : List ℕ) (d k n : ℕ) → AllByRecursion (λ b. b < 2) flags → Level k n → Level (k + d) (follow flags d n)
 follow_level flags zero k n h l = rw add-zero l
 follow_level flags (suc d) k n h l =
     let e : k + suc d ≡ (k + 1) + d = omega arith in
     rw e (follow_level flags d (k + 1) (2 * n + slice_index flags (n - 1)) h (level_child k n (slice_index flags (n - 1)) l (flag_lt flags (n - 1) h)))
 
-pub victim_lt : (flags : List ℕ) (d : ℕ) → All (λ b. b < 2) flags → follow flags d 1 - 2 ^ d < 2 ^ d
+pub victim_lt : (flags : List ℕ) (d : ℕ) → AllByRecursion (λ b. b < 2) flags → follow flags d 1 - 2 ^ d < 2 ^ d
 victim_lt flags d h = let l = follow_level flags d 0 1 h (omega arith) in omega (arith, ap (λ (k : ℕ). 2 ^ k) (zero-add d))
 
 -- the leaves
@@ -155,7 +155,7 @@ distinct_put t (Some x ∷ ls) (suc i) h d =
       distinct_put t ls i p.1 d.1,
     )
 
-pub all_put : (P : ℕ → Type 0) (t : ℕ) (ls : List (Option ℕ)) (i : ℕ) → P t → All P (tags_of ls) → All P (tags_of (slice_set ls i (Some t)))
+pub all_put : (P : ℕ → Type 0) (t : ℕ) (ls : List (Option ℕ)) (i : ℕ) → P t → AllByRecursion P (tags_of ls) → AllByRecursion P (tags_of (slice_set ls i (Some t)))
 all_put P t [] i p h = h
 all_put P t (None ∷ ls) zero p h = (p, h)
 all_put P t (Some x ∷ ls) zero p h = (p, h.1)
@@ -225,7 +225,7 @@ same_trees S T p q r =
 
 -- a touch of a tree
 
-pub leaf_touched_lt : (T : Tree) (t : ℕ) → All (λ b. b < 2) T.flags → length T.leaves ≡ 2 ^ T.depth → leaf_touched T t < 2 ^ T.depth
+pub leaf_touched_lt : (T : Tree) (t : ℕ) → AllByRecursion (λ b. b < 2) T.flags → length T.leaves ≡ 2 ^ T.depth → leaf_touched T t < 2 ^ T.depth
 leaf_touched_lt T t h e =
     cond_both (member t (tags_of T.leaves)) (leaf_of t T.leaves) (victim T) (λ i. i < 2 ^ T.depth)
     (λ m. omega (arith, leaf_of_lt t T.leaves m)) (λ m. victim_lt T.flags T.depth h)

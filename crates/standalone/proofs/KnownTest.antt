@@ -1,6 +1,6 @@
 -- The known runs, by one test that is computed over their list.
 use Rattle.std.proofs.Common.{◌≡◌, ℕ, Bool, true, false, ◌&&◌, eqb, List, [], ◌∷◌, get_or, sym, refl, ap, ◌∙◌}
-use Rattle.std.specs.List.{AllByRecursion as All}
+use Rattle.std.specs.List.{AllByRecursion}
 use Rattle.std.proofs.lemmas.Bool.{and_parts, eqb-true, true≢false}
 use Rattle.policy.specs.Standard.{standard}
 use Rattle.policy.specs.Three.{policy_of}
@@ -37,7 +37,7 @@ abbrev every : List Known → Bool
 every [] = true
 every (k ∷ ks) = test k && every ks
 
-all_stand : (ks : List Known) → every ks ≡ true → All Stands ks
+all_stand : (ks : List Known) → every ks ≡ true → AllByRecursion Stands ks
 all_stand [] e = tt
 all_stand (k ∷ ks) e = let (first, rest) = and_parts (test k) (every ks) e in (stands k first, all_stand ks rest)
 

@@ -1,7 +1,7 @@
 -- Rows that are laid out one after the other: reading one, and writing one.
 use Rattle.std.proofs.Common.{◌≡◌, ℕ, zero, suc, ◌+◌, ◌*◌, ◌<◌, ◌≤◌, List, [], ◌∷◌, ◌++◌, length, get_or, take, drop, set, replicate, sym, ap, ◌∙◌, not-suc-le-zero, suc-mul, add_comm, suc-add, zero-add, zero-mul, add-one, arith}
 use borrow.Rule.Slice.PartMut.{put_mid}
-use Rattle.std.specs.List.{AllByRecursion as All}
+use Rattle.std.specs.List.{AllByRecursion}
 use Rattle.std.proofs.lemmas.Nat.{mul-le}
 use Rattle.std.proofs.lemmas.List.{take_at, drop_at, drop-drop, append_assoc, length-append, length-replicate, replicate_more, flat_map_more}
 use Rattle.policy.specs.SearchLemmas.{all_replicate}
@@ -25,7 +25,7 @@ module _ (w : ℕ) where
   take_rows_past : (i : ℕ) (r more : List ℕ) → length r ≡ w → take (suc i * w) (r ++ more) ≡ r ++ take (i * w) more
   take_rows_past i r more e = ap (λ n. take n (r ++ more)) (next_row i ∙ ap (λ n. n + i * w) (sym e)) ∙ take_past (i * w) r more
 
-  pub row_laid : (i : ℕ) (rows : List (List ℕ)) (rest : List ℕ) → All (λ r. length r ≡ w) rows → i < length rows → row_at w i (laid rows ++ rest) ≡ get_or rows i []
+  pub row_laid : (i : ℕ) (rows : List (List ℕ)) (rest : List ℕ) → AllByRecursion (λ r. length r ≡ w) rows → i < length rows → row_at w i (laid rows ++ rest) ≡ get_or rows i []
   row_laid i [] rest h l = absurd (not-suc-le-zero l)
   row_laid zero (r ∷ rows) rest h l =
       ap (λ n. take w (drop n ((r ++ laid rows) ++ rest))) (zero-mul w)
@@ -34,7 +34,7 @@ module _ (w : ℕ) where
       ap (λ xs. row_at w (suc i) xs) (append_assoc r (laid rows) rest)
       ∙ ap (take w) (drop_past i r (laid rows ++ rest) h.0) ∙ row_laid i rows rest h.1 (omega arith)
 
-  pub with_row_laid : (i : ℕ) (rows : List (List ℕ)) (rest new : List ℕ) → All (λ r. length r ≡ w) rows → i < length rows → with_row w i (laid rows ++ rest) new ≡ laid (set rows i new) ++ rest
+  pub with_row_laid : (i : ℕ) (rows : List (List ℕ)) (rest new : List ℕ) → AllByRecursion (λ r. length r ≡ w) rows → i < length rows → with_row w i (laid rows ++ rest) new ≡ laid (set rows i new) ++ rest
   with_row_laid i [] rest new h l = absurd (not-suc-le-zero l)
   with_row_laid zero (r ∷ rows) rest new h l =
       let more = laid rows ++ rest in
@@ -50,7 +50,7 @@ module _ (w : ℕ) where
       ∙ ap (λ xs. r ++ xs) (with_row_laid i rows rest new h.1 (omega arith))
       ∙ sym (append_assoc r (laid (set rows i new)) rest)
 
-  pub length_laid : (rows : List (List ℕ)) → All (λ r. length r ≡ w) rows → length (laid rows) ≡ length rows * w
+  pub length_laid : (rows : List (List ℕ)) → AllByRecursion (λ r. length r ≡ w) rows → length (laid rows) ≡ length rows * w
   length_laid [] h = sym (zero-mul w)
   length_laid (r ∷ rows) h = length-append r (laid rows) ∙ omega (arith, h.0, length_laid rows h.1, suc-mul (length rows) w)
 

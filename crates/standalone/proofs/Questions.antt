@@ -1,6 +1,6 @@
 -- The questions about accesses, one access after the other.
 use Rattle.std.proofs.Common.{◌≡◌, ℕ, ◌+◌, ◌<◌, ◌≤◌, Bool, true, false, leb, List, [], ◌∷◌, length, get_or, drop, Some, None, Option, sym, refl, ap, ◌∙◌, arith}
-use Rattle.std.specs.List.{AllByRecursion as All}
+use Rattle.std.specs.List.{AllByRecursion}
 use Rattle.std.proofs.lemmas.List.{drop_more, drop_all}
 use Rattle.std.proofs.lemmas.Bool.{le-leb, lt-leb, leb-true, leb-false}
 use Rattle.geometry.specs.Refusal.{ask, first_no}
@@ -43,11 +43,11 @@ pub none_left : (xs : List Access) (i : ℕ) → length xs ≤ i → refused_at 
 none_left xs i h = ap refused_at (drop_all i xs h)
 
 -- accesses that pass are allowed
-pub all_allowed : (xs : List Access) → refused_at xs ≡ None → All Allowed xs
+pub all_allowed : (xs : List Access) → refused_at xs ≡ None → AllByRecursion Allowed xs
 all_allowed [] e = tt
 all_allowed (x ∷ xs) e = by_kind (leb x.kind 2) refl (leb x.address 4294967295) refl (all_allowed xs)
   where
-    by_kind : (b : Bool) → leb x.kind 2 ≡ b → (c : Bool) → leb x.address 4294967295 ≡ c → (refused_at xs ≡ None → All Allowed xs) → All Allowed (x ∷ xs)
+    by_kind : (b : Bool) → leb x.kind 2 ≡ b → (c : Bool) → leb x.address 4294967295 ≡ c → (refused_at xs ≡ None → AllByRecursion Allowed xs) → AllByRecursion Allowed (x ∷ xs)
     by_kind false k c a ih = let z : ◌≡◌ {A = ℕ} 0 1 = cc (stops 12 (leb x.kind 2) (ask 13 (leb x.address 4294967295) ∷ access_questions xs) k) in absurd (omega arith)
     by_kind true k false a ih =
         let z : ◌≡◌ {A = ℕ} 0 1 = cc (address_stops x xs (leb-true _ _ k) (leb-false _ _ a)) in absurd (omega arith)

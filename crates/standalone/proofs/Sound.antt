@@ -1,6 +1,6 @@
 -- What holds of a cache at every access, under the laws of its policy.
 use Rattle.std.proofs.Common.{◌≡◌, ℕ, zero, suc, ◌+◌, ◌*◌, ◌^◌, ◌<◌, ◌≤◌, true, List, [], ◌∷◌, ◌++◌, length, get_or, take, sym, refl, ap, ◌∙◌, subst, ⊎_elim, div-le_self, arith}
-use Rattle.std.specs.List.{AllByRecursion as All}
+use Rattle.std.specs.List.{AllByRecursion}
 use Rattle.std.proofs.lemmas.Nat.{mod_below}
 use Rattle.std.proofs.ByRecursion.{All-get_or, All-set, All-take}
 use Rattle.std.proofs.lemmas.List.{length-set, length-replicate, length-take-le, get_or-set_same, get_or-set_other, set_past, take_more}
@@ -15,7 +15,7 @@ use Rattle.standalone.specs.declared.access.Access.{Access}
 
 -- s rows that the policy made; after n accesses no count is above n, and the comparisons are at most 16 for each
 pub record Sound (m : Meaning) (s a n : ℕ) (c : Cache) : Type 0 where
-  pub made : All (m.Row a) c.rows
+  pub made : AllByRecursion (m.Row a) c.rows
   pub sets : length c.rows ≡ s
   pub miss_kinds : length c.misses ≡ 3
   pub hit_kinds : length c.hits ≡ 3
@@ -78,12 +78,12 @@ module _ (m : Meaning) (L : Laws m) (s a : ℕ) (takes : m.takes a ≡ true) (po
       comparisons = omega (arith, S.comparisons, comparisons_few);
     }
 
-  pub sound_run : (b n : ℕ) (c : Cache) (xs : List Access) → Sound m s a n c → All Allowed xs → Sound m s a (n + length xs) (run m b s c xs)
+  pub sound_run : (b n : ℕ) (c : Cache) (xs : List Access) → Sound m s a n c → AllByRecursion Allowed xs → Sound m s a (n + length xs) (run m b s c xs)
   sound_run b n c [] S h = subst (λ k. Sound m s a k c) (omega arith) S
   sound_run b n c (x ∷ xs) S h = subst (λ k. Sound m s a k (run m b s (accessed m b s c x) xs)) (omega arith) (sound_run b (suc n) (accessed m b s c x) xs (sound_next b n c S x h.0) h.1)
 
   -- the cache after the first n accesses
-  pub sound_at : (b n : ℕ) (xs : List Access) → All Allowed xs → n ≤ length xs → Sound m s a n (run m b s (new_cache m s a) (take n xs))
+  pub sound_at : (b n : ℕ) (xs : List Access) → AllByRecursion Allowed xs → n ≤ length xs → Sound m s a n (run m b s (new_cache m s a) (take n xs))
   sound_at b n xs h l =
       let long : length (take n xs) ≡ n = length-take-le n xs l in
       subst (λ k. Sound m s a k (run m b s (new_cache m s a) (take n xs))) (omega arith)

@@ -1,6 +1,6 @@
 -- One access more of a run.
 use Rattle.std.proofs.Common.{◌≡◌, ℕ, ◌+◌, ◌^◌, ◌<◌, ◌≤◌, Bool, true, cond, List, [], ◌++◌, length, get_or, take, sym, ap, ◌∙◌, subst, arith}
-use Rattle.std.specs.List.{AllByRecursion as All}
+use Rattle.std.specs.List.{AllByRecursion}
 use Rattle.std.proofs.ByRecursion.{All-get_or, All-weaker}
 use Rattle.policy.specs.Policy.{Meaning, Laws}
 use Rattle.geometry.specs.Address.{set_of, tag_of}
@@ -19,7 +19,7 @@ pub record Going (m : Meaning) (b s a : ℕ) (xs : List Access) (i : ℕ) (rest 
   pub laws : Laws m
   pub takes : m.takes a ≡ true
   pub sets : 0 < s
-  pub allowed : All Allowed xs
+  pub allowed : AllByRecursion Allowed xs
   pub few : length xs ≤ 4294967295
   pub within : i < length xs
   pub tracks : Tracks m b s a (take i xs) rest memory counts comparisons
@@ -41,7 +41,7 @@ module _ {m : Meaning} {b s a : ℕ} {xs : List Access} {i : ℕ} {rest memory :
   in_rows : set_of (get_or xs i d).address b s < length (run m b s (new_cache m s a) (take i xs)).rows
   in_rows = subst (λ n. set_of (get_or xs i d).address b s < n) (sym sound.sets) (set_below m G.laws s a G.takes G.sets b i (run m b s (new_cache m s a) (take i xs)) sound (get_or xs i d) access_allowed)
 
-  rows-wide : All (λ r. length r ≡ a + 1) (run m b s (new_cache m s a) (take i xs)).rows
+  rows-wide : AllByRecursion (λ r. length r ≡ a + 1) (run m b s (new_cache m s a) (take i xs)).rows
   rows-wide = All-weaker (m.Row a) (λ r. length r ≡ a + 1) (λ r. G.laws.words a r G.takes) (run m b s (new_cache m s a) (take i xs)).rows sound.made
 
   row_is : row_at (a + 1) (set_of (get_or xs i d).address b s) memory ≡ get_or (run m b s (new_cache m s a) (take i xs)).rows (set_of (get_or xs i d).address b s) []

@@ -1,6 +1,6 @@
 -- Known counts: small runs whose outcome is worked out by hand.
 use Rattle.std.specs.Prelude.{◌≡◌, ℕ, suc, cond, List, [], ◌∷◌, ◌++◌, map, slice_index_or}
-use Rattle.std.specs.List.{AllByRecursion as All}
+use Rattle.std.specs.List.{AllByRecursion}
 use Rattle.policy.specs.Policy.{Meaning}
 use Rattle.policy.specs.Standard.{standard}
 use Rattle.policy.specs.Three.{policy_of}
@@ -81,4 +81,4 @@ known =
 
 -- every known run comes out as it must
 abbrev pub KnownCounts : Type 0
-KnownCounts = All Stands known
+KnownCounts = AllByRecursion Stands known

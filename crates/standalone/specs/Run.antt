@@ -1,6 +1,6 @@
 -- One cache run alone over its own memory: what it asks, what it answers and what it leaves.
 use Rattle.std.specs.Prelude.{◌≡◌, ℕ, ◌+◌, ◌*◌, ◌≤◌, List, [], ◌∷◌, ◌++◌, length, drop, Some, None, nat_le}
-use Rattle.std.specs.List.{AllByRecursion as All}
+use Rattle.std.specs.List.{AllByRecursion}
 use Rattle.policy.specs.Policy.{Meaning}
 use Rattle.policy.specs.Three.{Three, policy_of, which}
 use Rattle.policy.specs.declared.three.Member.{Member}
@@ -51,4 +51,4 @@ pub record Prepared (p : Three) (line : Line) (xs : List Access) (words : ℕ) (
   pub geometry : GeometryOf p line g
   pub room : need line ≤ words
   pub few : length xs ≤ 4294967295
-  pub allowed : All Allowed xs
+  pub allowed : AllByRecursion Allowed xs

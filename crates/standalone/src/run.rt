@@ -1,6 +1,6 @@
 // The run of one cache: its questions, then every access in turn.
 ghost use Rattle.std.specs.Prelude.{◌≡◌, ◌+◌, ◌*◌, ◌^◌, ◌<◌, ◌≤◌, true, ◌++◌, length, drop, replicate, Some, None, MatchResult};
-ghost use Rattle.std.specs.List.{AllByRecursion as All};
+ghost use Rattle.std.specs.List.{AllByRecursion};
 ghost use Rattle.policy.specs.Three.{policy_of, three};
 ghost use Rattle.geometry.specs.Refusal.{first_no, refusal_number};
 ghost use Rattle.standalone.specs.Allowed.{Allowed};
@@ -60,7 +60,7 @@ fn touch_all<A: Nesting, B: Nesting, C: Policy>(
 ) -> (Counts, u64)
     requires room { 2 ^ geometry.now.set_bits * (geometry.now.ways + 1) ≤ length memory.old }
     requires takes { (policy_of (three A.Policy.meaning B.Policy.meaning C.Policy.meaning) geometry.now.member).takes geometry.now.ways ≡ true }
-    requires allowed { All Allowed accesses.now }
+    requires allowed { AllByRecursion Allowed accesses.now }
     requires few { length accesses.now ≤ 4294967295 }
     requires started { memory.old ≡ laid (replicate (2 ^ geometry.now.set_bits) ((policy_of (three A.Policy.meaning B.Policy.meaning C.Policy.meaning) geometry.now.member).start (geometry.now.ways + 1))) ++ drop (2 ^ geometry.now.set_bits * (geometry.now.ways + 1)) memory.old }
     ensures { Tracks (policy_of (three A.Policy.meaning B.Policy.meaning C.Policy.meaning) geometry.now.member) (2 ^ geometry.now.block_bits) (2 ^ geometry.now.set_bits) geometry.now.ways accesses.now (drop (2 ^ geometry.now.set_bits * (geometry.now.ways + 1)) memory.old) memory.new result.0 result.1 }
