@@ -8,13 +8,14 @@ use Rattle.bench.specs.Mixed.{Leads, Owned, sweep_all}
 use Rattle.bench.specs.Words.{Kin, one_way, rows_at, spread, wide}
 use Rattle.bench.specs.Direct.{direct_hit}
 use Rattle.bench.specs.Group.{sweep_at}
-use Rattle.bench.specs.Entries.{all_counted, counted, entry_kin}
+use Rattle.bench.specs.Entries.{all_counted, counted}
+use Rattle.bench.specs.OpenLines.{line_kin}
 use Rattle.bench.specs.Level.{Done, Visited, all_hit, hit_level, level_words, miss_level, visit}
 use Rattle.geometry.specs.Address.{set_of, tag_of}
 use Rattle.bench.specs.Spans.{SpansLevels}
 use Rattle.bench.specs.Sweep.{and_then, families_hit, levels_hit, skip, sweep_levels, visit_of}
 use Rattle.bench.specs.Table.{Family, Level}
-use Rattle.bench.specs.declared.entry.Entry.{Entry}
+use Rattle.bench.specs.declared.open_line.OpenLine.{OpenLine}
 use Rattle.bench.proofs.Hits.{all_hit_true, hits_kept}
 
 -- misses counted part by part
@@ -88,7 +89,7 @@ visit-length f s i t ks ws = go (direct_hit ws i t) refl
         ∙ spread-length ks (sweep_at f s i t (wide ks) (drop (2 * s) ws)).hits (sweep-length f (rows_at s i (wide ks) (drop (2 * s) ws)) t ∙ rows_at-length s i (wide ks) (drop (2 * s) ws))
 
 -- a sweep over levels answers for each of their lines
-pub levels_length : (f : Owned → ℕ → Leads → Stepped) (b address : ℕ) (ls : List Level) (xs : List Entry) (ws : List ℕ) → SpansLevels b ls xs → length (sweep_levels f b address ls ws).hits ≡ length xs
+pub levels_length : (f : Owned → ℕ → Leads → Stepped) (b address : ℕ) (ls : List Level) (xs : List OpenLine) (ws : List ℕ) → SpansLevels b ls xs → length (sweep_levels f b address ls ws).hits ≡ length xs
 levels_length f b address [] xs ws sp = sym (ap length sp)
 levels_length f b address (l ∷ ls) [] ws sp = absurd sp
 levels_length f b address (l ∷ ls) (x ∷ xs) ws sp =
@@ -97,15 +98,15 @@ levels_length f b address (l ∷ ls) (x ∷ xs) ws sp =
     let v = visit_of f b address l (take N ws) in
     let hit = direct_hit (take N ws) (set_of address b l.sets) (tag_of address b l.sets) in
     let here : length v.hits ≡ n = visit-length f _ _ _ l.lines (take N ws) in
-    let there : n ≤ length (x ∷ xs) = omega (arith, ap length sp.0.kin, length-map (take n (x ∷ xs)) entry_kin, length-take n (x ∷ xs)) in
+    let there : n ≤ length (x ∷ xs) = omega (arith, ap length sp.0.kin, length-map (take n (x ∷ xs)) line_kin, length-take n (x ∷ xs)) in
     let later : length (cond hit (skip (levels_hit ls) (drop N ws)) (sweep_levels f b address ls (drop N ws))).hits ≡ length (drop n (x ∷ xs)) =
     cond_both hit (skip (levels_hit ls) (drop N ws)) (sweep_levels f b address ls (drop N ws)) (λ w. length w.hits ≡ length (drop n (x ∷ xs))) (λ _. hits-length b ls (drop n (x ∷ xs)) sp.1) (λ _. levels_length f b address ls (drop n (x ∷ xs)) (drop N ws) sp.1) in
     omega (arith, length-append v.hits (cond hit (skip (levels_hit ls) (drop N ws)) (sweep_levels f b address ls (drop N ws))).hits, length-drop n (x ∷ xs))
   where
-    hits-length : (b : ℕ) (ls : List Level) (xs : List Entry) → SpansLevels b ls xs → length (levels_hit ls) ≡ length xs
+    hits-length : (b : ℕ) (ls : List Level) (xs : List OpenLine) → SpansLevels b ls xs → length (levels_hit ls) ≡ length xs
     hits-length b [] xs sp = sym (ap length sp)
     hits-length b (l ∷ ls) [] sp = absurd sp
     hits-length b (l ∷ ls) (x ∷ xs) sp =
         let n = length l.lines in
-        let there : n ≤ length (x ∷ xs) = omega (arith, ap length sp.0.kin, length-map (take n (x ∷ xs)) entry_kin, length-take n (x ∷ xs)) in
+        let there : n ≤ length (x ∷ xs) = omega (arith, ap length sp.0.kin, length-map (take n (x ∷ xs)) line_kin, length-take n (x ∷ xs)) in
         omega (arith, length-append (all_hit l.lines) (levels_hit ls), length-map l.lines (λ _. true), hits-length b ls (drop n (x ∷ xs)) sp.1, length-drop n (x ∷ xs))

@@ -5,16 +5,16 @@ use Rattle.std.proofs.lemmas.Bool.{cond-true, cond-false}
 use Rattle.bench.specs.Done.{FamiliesDone, LevelsDone}
 use Rattle.bench.specs.Rows.{Stepped}
 use Rattle.bench.specs.Mixed.{Leads, Owned}
-use Rattle.bench.specs.Entries.{entry_kin}
+use Rattle.bench.specs.OpenLines.{line_kin}
 use Rattle.bench.specs.Level.{Done, Visited}
 use Rattle.bench.specs.Spans.{FamiliesFit, FamilySpan, LevelsFit, SpansFamilies, SpansLevels, levels_lines}
 use Rattle.bench.specs.Sweep.{and_then, families_hit, same_block, skip, sweep_families, sweep_levels}
 use Rattle.bench.specs.Table.{Family, Level, families_words, levels_words}
-use Rattle.bench.specs.declared.entry.Entry.{Entry}
+use Rattle.bench.specs.declared.open_line.OpenLine.{OpenLine}
 use Rattle.bench.proofs.DoneParts.{done_skip, done_then, families_true, levels_length}
 
 -- the first block size of lines that are not empty
-pub record FirstFamily (fs : List Family) (es : List Entry) (x : Entry) : Type 0 where
+pub record FirstFamily (fs : List Family) (es : List OpenLine) (x : OpenLine) : Type 0 where
   pub family : Family
   pub rest : List Family
   pub is : fs ≡ family ∷ rest
@@ -22,7 +22,7 @@ pub record FirstFamily (fs : List Family) (es : List Entry) (x : Entry) : Type 0
   pub levels : SpansLevels family.block family.levels (take (levels_lines family.levels) es)
   pub later : SpansFamilies rest (drop (levels_lines family.levels) es)
 
-pub first_family : (fs : List Family) (es : List Entry) (x : Entry) → x ≡ get_or es 0 x → 0 < length es → SpansFamilies fs es → FirstFamily fs es x
+pub first_family : (fs : List Family) (es : List OpenLine) (x : OpenLine) → x ≡ get_or es 0 x → 0 < length es → SpansFamilies fs es → FirstFamily fs es x
 first_family fs [] x is some sp = absurd (not-suc-le-zero some)
 first_family [] (y ∷ es) x is some sp = let z : length (y ∷ es) ≡ 0 = ap length sp in absurd (omega arith)
 first_family (f ∷ fs) (y ∷ es) x is some sp = record {
@@ -35,20 +35,20 @@ first_family (f ∷ fs) (y ∷ es) x is some sp = record {
 }
 
 -- no lines, no levels
-pub none_swept : (f : Owned → ℕ → Leads → Stepped) (last : Option ℕ) (address kind : ℕ) (es : List Entry) (ms : List (List ℕ)) (ws : List ℕ) → length es ≡ 0 → FamiliesDone f last address kind es ms ws ms ws 0
+pub none_swept : (f : Owned → ℕ → Leads → Stepped) (last : Option ℕ) (address kind : ℕ) (es : List OpenLine) (ms : List (List ℕ)) (ws : List ℕ) → length es ≡ 0 → FamiliesDone f last address kind es ms ws ms ws 0
 none_swept f last address kind [] ms ws e [] sp = record { words = refl; misses = refl; compared = refl }
 none_swept f last address kind [] ms ws e (g ∷ gs) sp = absurd sp
 none_swept f last address kind (x ∷ es) ms ws e fs sp = absurd (omega arith)
 
 -- lines of levels are there
-lines_there : (b : ℕ) (ls : List Level) (xs : List Entry) → SpansLevels b ls xs → levels_lines ls ≤ length xs
+lines_there : (b : ℕ) (ls : List Level) (xs : List OpenLine) → SpansLevels b ls xs → levels_lines ls ≤ length xs
 lines_there b [] xs sp = omega arith
 lines_there b (l ∷ ls) [] sp = absurd sp
 lines_there b (l ∷ ls) (x ∷ xs) sp =
-    let here : length l.lines ≤ length (x ∷ xs) = omega (arith, ap length sp.0.kin, length-map (take (length l.lines) (x ∷ xs)) entry_kin, length-take (length l.lines) (x ∷ xs)) in
+    let here : length l.lines ≤ length (x ∷ xs) = omega (arith, ap length sp.0.kin, length-map (take (length l.lines) (x ∷ xs)) line_kin, length-take (length l.lines) (x ∷ xs)) in
     omega (arith, lines_there b ls (drop (length l.lines) (x ∷ xs)) sp.1, length-drop (length l.lines) (x ∷ xs))
 
-module _ {fs : List Family} {es : List Entry} {x : Entry} (F : FirstFamily fs es x) where
+module _ {fs : List Family} {es : List OpenLine} {x : OpenLine} (F : FirstFamily fs es x) where
   pub family_lines : levels_lines F.family.levels ≤ length es
   family_lines = omega (arith, lines_there F.family.block F.family.levels (take (levels_lines F.family.levels) es) F.levels, length-take (levels_lines F.family.levels) es)
 
@@ -56,18 +56,18 @@ module _ {fs : List Family} {es : List Entry} {x : Entry} (F : FirstFamily fs es
   family_room = sym (ap families_words F.is)
 
 -- lines and words of the first block size lie within those that are lent
-pub record Within (es : List Entry) (x : Entry) (room : ℕ) : Type 0 where
+pub record Within (es : List OpenLine) (x : OpenLine) (room : ℕ) : Type 0 where
   pub lines : x.family.lines ≤ length es
   pub some : 0 < x.family.lines
   pub words : x.family.words ≤ room
 
-pub within : (es : List Entry) (x : Entry) → x ≡ get_or es 0 x → (room : ℕ) → 0 < length es → FamiliesFit es room → Within es x room
+pub within : (es : List OpenLine) (x : OpenLine) → x ≡ get_or es 0 x → (room : ℕ) → 0 < length es → FamiliesFit es room → Within es x room
 within es x is room some fit =
     let F = first_family fit.table es x is some fit.spans in
     record { lines = omega (arith, F.span.lines, family_lines F); some = omega (arith, F.span.lines, F.span.some); words = omega (arith, F.span.words, family_room F, fit.fits) }
 
 -- what the sweep of the first block size asks
-pub levels_fit : (es : List Entry) (x : Entry) → x ≡ get_or es 0 x → (ws : List ℕ) → 0 < length es → FamiliesFit es (length ws) → LevelsFit (take x.family.lines es) (length (take x.family.words ws))
+pub levels_fit : (es : List OpenLine) (x : OpenLine) → x ≡ get_or es 0 x → (ws : List ℕ) → 0 < length es → FamiliesFit es (length ws) → LevelsFit (take x.family.lines es) (length (take x.family.words ws))
 levels_fit es x is ws some fit =
     let F = first_family fit.table es x is some fit.spans in
     let W = within es x is (length ws) some fit in
@@ -79,7 +79,7 @@ levels_fit es x is ws some fit =
     }
 
 -- and that of the later ones
-pub later_fit : (es : List Entry) (x : Entry) → x ≡ get_or es 0 x → (ws : List ℕ) → 0 < length es → FamiliesFit es (length ws) → FamiliesFit (drop x.family.lines es) (length (drop x.family.words ws))
+pub later_fit : (es : List OpenLine) (x : OpenLine) → x ≡ get_or es 0 x → (ws : List ℕ) → 0 < length es → FamiliesFit es (length ws) → FamiliesFit (drop x.family.lines es) (length (drop x.family.words ws))
 later_fit es x is ws some fit =
     let F = first_family fit.table es x is some fit.spans in
     record {
@@ -88,7 +88,7 @@ later_fit es x is ws some fit =
       fits = omega (arith, F.span.words, family_room F, fit.fits, length-drop x.family.words ws);
     }
 
-module _ (f : Owned → ℕ → Leads → Stepped) (last : Option ℕ) (address kind : ℕ) {fs : List Family} (es : List Entry) {x : Entry} (F : FirstFamily fs es x) (ms : List (List ℕ)) (same_long : length ms ≡ length es) (ws : List ℕ) where
+module _ (f : Owned → ℕ → Leads → Stepped) (last : Option ℕ) (address kind : ℕ) {fs : List Family} (es : List OpenLine) {x : OpenLine} (F : FirstFamily fs es x) (ms : List (List ℕ)) (same_long : length ms ≡ length es) (ws : List ℕ) where
   abbrev others : Visited
   others = and_then (sweep_levels f F.family.block address F.family.levels (take (levels_words F.family.levels) ws)) (sweep_families f last address F.rest (drop (levels_words F.family.levels) ws))
 

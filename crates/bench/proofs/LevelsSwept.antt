@@ -7,24 +7,24 @@ use Rattle.bench.specs.Direct.{direct_hit}
 use Rattle.bench.specs.Done.{LevelsDone}
 use Rattle.bench.specs.Rows.{Stepped}
 use Rattle.bench.specs.Mixed.{Leads, Owned}
-use Rattle.bench.specs.Entries.{entry_kin, kin_of}
+use Rattle.bench.specs.OpenLines.{line_kin, kins_of}
 use Rattle.bench.specs.Level.{Done, Visited, level_words, visit}
 use Rattle.bench.specs.Spans.{LevelSpan, LevelsFit, SpansLevels}
 use Rattle.bench.specs.Sweep.{and_then, levels_hit, skip, sweep_levels, visit_of}
 use Rattle.bench.specs.Table.{Level, levels_words}
-use Rattle.bench.specs.declared.entry.Entry.{Entry}
+use Rattle.bench.specs.declared.open_line.OpenLine.{OpenLine}
 use Rattle.bench.specs.declared.rows.Place.{Place}
 use Rattle.bench.proofs.DoneParts.{done_skip, done_then, levels_true, visit-length}
 
 -- the first level of lines that are not empty
-pub record FirstLevel (b : ℕ) (ls : List Level) (es : List Entry) (x : Entry) : Type 0 where
+pub record FirstLevel (b : ℕ) (ls : List Level) (es : List OpenLine) (x : OpenLine) : Type 0 where
   pub level : Level
   pub rest : List Level
   pub is : ls ≡ level ∷ rest
   pub span : LevelSpan b level x es
   pub later : SpansLevels b rest (drop (length level.lines) es)
 
-pub first_level : (b : ℕ) (ls : List Level) (es : List Entry) (x : Entry) → x ≡ get_or es 0 x → 0 < length es → SpansLevels b ls es → FirstLevel b ls es x
+pub first_level : (b : ℕ) (ls : List Level) (es : List OpenLine) (x : OpenLine) → x ≡ get_or es 0 x → 0 < length es → SpansLevels b ls es → FirstLevel b ls es x
 first_level b ls [] x is some sp = absurd (not-suc-le-zero some)
 first_level b [] (y ∷ es) x is some sp = let z : length (y ∷ es) ≡ 0 = ap length sp in absurd (omega arith)
 first_level b (l ∷ ls) (y ∷ es) x is some sp = record {
@@ -36,36 +36,36 @@ first_level b (l ∷ ls) (y ∷ es) x is some sp = record {
 }
 
 -- no lines, no levels
-pub none_swept : (f : Owned → ℕ → Leads → Stepped) (address kind : ℕ) (es : List Entry) (ms : List (List ℕ)) (ws : List ℕ) → length es ≡ 0 → LevelsDone f address kind es ms ws ms ws 0
+pub none_swept : (f : Owned → ℕ → Leads → Stepped) (address kind : ℕ) (es : List OpenLine) (ms : List (List ℕ)) (ws : List ℕ) → length es ≡ 0 → LevelsDone f address kind es ms ws ms ws 0
 none_swept f address kind [] ms ws e b [] sp = record { words = refl; misses = refl; compared = refl }
 none_swept f address kind [] ms ws e b (l ∷ ls) sp = absurd sp
 none_swept f address kind (x ∷ es) ms ws e b ls sp = absurd (omega arith)
 
-module _ {b : ℕ} {ls : List Level} {es : List Entry} {x : Entry} (F : FirstLevel b ls es x) where
+module _ {b : ℕ} {ls : List Level} {es : List OpenLine} {x : OpenLine} (F : FirstLevel b ls es x) where
   -- its lines are there
   pub level_lines : length F.level.lines ≤ length es
-  level_lines = omega (arith, ap length F.span.kin, length-map (take (length F.level.lines) es) entry_kin, length-take (length F.level.lines) es)
+  level_lines = omega (arith, ap length F.span.kin, length-map (take (length F.level.lines) es) line_kin, length-take (length F.level.lines) es)
 
   pub level_room : level_words F.level.sets F.level.lines + levels_words F.rest ≡ levels_words ls
   level_room = sym (ap levels_words F.is)
 
   -- and are of these policies and ways
-  pub level_kin : kin_of (take (length F.level.lines) es) ≡ F.level.lines
+  pub level_kin : kins_of (take (length F.level.lines) es) ≡ F.level.lines
   level_kin = F.span.kin
 
 -- lines and words of the first level lie within those that are lent
-pub record Within (es : List Entry) (x : Entry) (room : ℕ) : Type 0 where
+pub record Within (es : List OpenLine) (x : OpenLine) (room : ℕ) : Type 0 where
   pub lines : x.level.lines ≤ length es
   pub some : 0 < x.level.lines
   pub words : x.level.words ≤ room
 
-pub within : (es : List Entry) (x : Entry) → x ≡ get_or es 0 x → (room : ℕ) → 0 < length es → LevelsFit es room → Within es (x) room
+pub within : (es : List OpenLine) (x : OpenLine) → x ≡ get_or es 0 x → (room : ℕ) → 0 < length es → LevelsFit es room → Within es (x) room
 within es x is room some fit =
     let F = first_level fit.block fit.levels es x is some fit.spans in
     record { lines = omega (arith, F.span.lines, level_lines F); some = omega (arith, F.span.lines, F.span.some); words = omega (arith, F.span.words, level_room F, fit.fits) }
 
 -- and so do those of the later ones
-pub later_fit : (es : List Entry) (x : Entry) → x ≡ get_or es 0 x → (ws : List ℕ) → 0 < length es → LevelsFit es (length ws) → LevelsFit (drop x.level.lines es) (length (drop x.level.words ws))
+pub later_fit : (es : List OpenLine) (x : OpenLine) → x ≡ get_or es 0 x → (ws : List ℕ) → 0 < length es → LevelsFit es (length ws) → LevelsFit (drop x.level.lines es) (length (drop x.level.words ws))
 later_fit es x is ws some fit =
     let F = first_level fit.block fit.levels es x is some fit.spans in
     record {
@@ -76,17 +76,17 @@ later_fit es x is ws some fit =
     }
 
 -- what a visit of the first level asks
-pub visit_room : (es : List Entry) (x : Entry) → x ≡ get_or es 0 x → (ws : List ℕ) → 0 < length es → LevelsFit es (length ws)
-    → level_words (2 ^ x.geometry.set_bits) (kin_of (take x.level.lines es)) ≤ length (take x.level.words ws)
+pub visit_room : (es : List OpenLine) (x : OpenLine) → x ≡ get_or es 0 x → (ws : List ℕ) → 0 < length es → LevelsFit es (length ws)
+    → level_words (2 ^ x.geometry.set_bits) (kins_of (take x.level.lines es)) ≤ length (take x.level.words ws)
 visit_room es x is ws some fit =
     let F = first_level fit.block fit.levels es x is some fit.spans in
     let W = within es x is (length ws) some fit in
-    let same : level_words (2 ^ x.geometry.set_bits) (kin_of (take x.level.lines es)) ≡ x.level.words =
-    ap (λ n. level_words n (kin_of (take x.level.lines es))) F.span.sets
-    ∙ ap (λ n. level_words F.level.sets (kin_of (take n es))) F.span.lines ∙ ap (level_words F.level.sets) (level_kin F) ∙ sym F.span.words in
+    let same : level_words (2 ^ x.geometry.set_bits) (kins_of (take x.level.lines es)) ≡ x.level.words =
+    ap (λ n. level_words n (kins_of (take x.level.lines es))) F.span.sets
+    ∙ ap (λ n. level_words F.level.sets (kins_of (take n es))) F.span.lines ∙ ap (level_words F.level.sets) (level_kin F) ∙ sym F.span.words in
     omega (arith, same, length-take-le x.level.words ws W.words)
 
-module _ (f : Owned → ℕ → Leads → Stepped) (address kind : ℕ) {b : ℕ} {ls : List Level} (es : List Entry) {x : Entry} (F : FirstLevel b ls es x) (ms : List (List ℕ)) (same_long : length ms ≡ length es) (ws : List ℕ) (at : Place)
+module _ (f : Owned → ℕ → Leads → Stepped) (address kind : ℕ) {b : ℕ} {ls : List Level} (es : List OpenLine) {x : OpenLine} (F : FirstLevel b ls es x) (ms : List (List ℕ)) (same_long : length ms ≡ length es) (ws : List ℕ) (at : Place)
     (sets : at.sets ≡ 2 ^ x.geometry.set_bits) (set : at.set ≡ set_of address (2 ^ x.geometry.block_bits) (2 ^ x.geometry.set_bits))
     (tag : at.tag ≡ tag_of address (2 ^ x.geometry.block_bits) (2 ^ x.geometry.set_bits)) where
   set_is : at.set ≡ set_of address b F.level.sets
@@ -98,15 +98,15 @@ module _ (f : Owned → ℕ → Leads → Stepped) (address kind : ℕ) {b : ℕ
   words_are : take x.level.words ws ≡ take (level_words F.level.sets F.level.lines) ws
   words_are = ap (λ n. take n ws) F.span.words
 
-  lines_are : kin_of (take x.level.lines es) ≡ F.level.lines
-  lines_are = ap (λ n. kin_of (take n es)) F.span.lines ∙ level_kin F
+  lines_are : kins_of (take x.level.lines es) ≡ F.level.lines
+  lines_are = ap (λ n. kins_of (take n es)) F.span.lines ∙ level_kin F
 
   -- the visit at that place is the one that the sweep makes of the first level
-  same-visit : visit f at.sets at.set at.tag (kin_of (take x.level.lines es)) (take x.level.words ws) ≡ visit_of f b address F.level (take (level_words F.level.sets F.level.lines) ws)
+  same-visit : visit f at.sets at.set at.tag (kins_of (take x.level.lines es)) (take x.level.words ws) ≡ visit_of f b address F.level (take (level_words F.level.sets F.level.lines) ws)
   same-visit =
-      ap (λ n. visit f n at.set at.tag (kin_of (take x.level.lines es)) (take x.level.words ws)) (sets ∙ F.span.sets)
-      ∙ ap (λ i. visit f F.level.sets i at.tag (kin_of (take x.level.lines es)) (take x.level.words ws)) set_is
-      ∙ ap (λ t. visit f F.level.sets (set_of address b F.level.sets) t (kin_of (take x.level.lines es)) (take x.level.words ws)) tag_is
+      ap (λ n. visit f n at.set at.tag (kins_of (take x.level.lines es)) (take x.level.words ws)) (sets ∙ F.span.sets)
+      ∙ ap (λ i. visit f F.level.sets i at.tag (kins_of (take x.level.lines es)) (take x.level.words ws)) set_is
+      ∙ ap (λ t. visit f F.level.sets (set_of address b F.level.sets) t (kins_of (take x.level.lines es)) (take x.level.words ws)) tag_is
       ∙ ap (λ ks. visit f F.level.sets (set_of address b F.level.sets) (tag_of address b F.level.sets) ks (take x.level.words ws)) lines_are
       ∙ ap (visit_of f b address F.level) words_are
 
@@ -117,7 +117,7 @@ module _ (f : Owned → ℕ → Leads → Stepped) (address kind : ℕ) {b : ℕ
       ∙ ap (λ t. direct_hit (take (level_words F.level.sets F.level.lines) ws) (set_of address b F.level.sets) t) tag_is
 
   -- the first level, and what is done of the others
-  module _ {ms' : List (List ℕ)} {ws' : List ℕ} {c : ℕ} (V : Done (visit f at.sets at.set at.tag (kin_of (take x.level.lines es)) (take x.level.words ws)) kind (take x.level.lines ms) ms' ws' c) where
+  module _ {ms' : List (List ℕ)} {ws' : List ℕ} {c : ℕ} (V : Done (visit f at.sets at.set at.tag (kins_of (take x.level.lines es)) (take x.level.words ws)) kind (take x.level.lines ms) ms' ws' c) where
     first_then : (w : Visited) {ms'' : List (List ℕ)} {ws'' : List ℕ} {d : ℕ}
         → cond (direct_hit (take (level_words F.level.sets F.level.lines) ws) (set_of address b F.level.sets) (tag_of address b F.level.sets))
         (skip (levels_hit F.rest) (drop (level_words F.level.sets F.level.lines) ws)) (sweep_levels f b address F.rest (drop (level_words F.level.sets F.level.lines) ws)) ≡ w
@@ -127,7 +127,7 @@ module _ (f : Owned → ℕ → Leads → Stepped) (address kind : ℕ) {b : ℕ
         let V₁ : Done v kind (take x.level.lines ms) ms' ws' c = subst (λ v. Done v kind (take x.level.lines ms) ms' ws' c) same-visit V in
         let long : length v.hits ≡ length (take x.level.lines ms) =
         visit-length f _ _ _ F.level.lines (take (level_words F.level.sets F.level.lines) ws)
-        ∙ ap length (sym lines_are) ∙ length-map (take x.level.lines es) entry_kin ∙ omega (arith, same_long, length-take x.level.lines es, length-take x.level.lines ms) in
+        ∙ ap length (sym lines_are) ∙ length-map (take x.level.lines es) line_kin ∙ omega (arith, same_long, length-take x.level.lines es, length-take x.level.lines ms) in
         let both = done_then v w kind (take x.level.lines ms) ms' (drop x.level.lines ms) ms'' ws' ws'' c d long V₁ W in
         let whole : Done (and_then v w) kind ms (ms' ++ ms'') (ws' ++ ws'') (min (c + d) 18446744073709551615) =
         subst (λ zs. Done (and_then v w) kind zs (ms' ++ ms'') (ws' ++ ws'') (min (c + d) 18446744073709551615)) (take-append-drop x.level.lines ms) both in

@@ -4,8 +4,10 @@ pub mod SweepSet
 pub mod Restrict
 pub mod RowWords
 pub mod GroupRows
+pub mod SetRows
 pub mod Hits
 pub mod LevelRows
+pub mod OpenLevelRows
 pub mod AllLawful
 pub mod InWindows
 pub mod LineKept

@@ -2,12 +2,12 @@
 use Rattle.std.proofs.Common.{◌≡◌, ℕ, ◌+◌, ◌-◌, ◌<◌, ◌≤◌, Bool, ◌&&◌, List, [], ◌∷◌, ◌++◌, length, get_or, take, drop, replicate, sym, refl, ap, ◌∙◌, arith}
 use Rattle.std.proofs.lemmas.List.{append_assoc, append-nil, drop_all, drop-drop, length-take, length-take-le, take_rest}
 use Rattle.standalone.specs.Rows.{laid}
-use Rattle.bench.specs.Entries.{kin_of}
+use Rattle.bench.specs.OpenLines.{kins_of}
 use Rattle.bench.specs.Start.{any_of, started_lines}
 use Rattle.bench.specs.Started.{new_row}
 use Rattle.bench.specs.Suite.{Suite, nesting}
 use Rattle.bench.specs.Words.{Kin, line_words, lines_words, wide}
-use Rattle.bench.specs.declared.entry.Entry.{Entry}
+use Rattle.bench.specs.declared.open_line.OpenLine.{OpenLine}
 use Rattle.bench.proofs.AnyOf.{wide_next, wide_past}
 
 -- the first n words are started, and then others
@@ -28,23 +28,23 @@ module _ (s : Suite) (sets : ℕ) (ws : List ℕ) where
   abbrev after : List Kin → List ℕ
   after ks = started_lines s sets ks ++ drop (lines_words sets ks) ws
 
-  pub lines_none : (es : List Entry) → length es ≡ 0 → ws ≡ after (wide (kin_of es))
+  pub lines_none : (es : List OpenLine) → length es ≡ 0 → ws ≡ after (wide (kins_of es))
   lines_none [] z = refl
   lines_none (x ∷ es) z = absurd (omega arith)
 
-  module _ (es : List Entry) (x : Entry) (some : 0 < length es) (is : x ≡ get_or es 0 x) where
+  module _ (es : List OpenLine) (x : OpenLine) (some : 0 < length es) (is : x ≡ get_or es 0 x) where
     -- a line of one way has no rows
-    pub lines_single : (words : List ℕ) → x.geometry.ways ≤ 1 → words ≡ after (wide (kin_of (take (length es - 1) (drop 1 es)))) → words ≡ after (wide (kin_of es))
-    lines_single words one e = e ∙ ap (λ zs. after (wide (kin_of zs))) (take_rest es 1) ∙ ap after (sym (wide_past es 0 x some is one))
+    pub lines_single : (words : List ℕ) → x.geometry.ways ≤ 1 → words ≡ after (wide (kins_of (take (length es - 1) (drop 1 es)))) → words ≡ after (wide (kins_of es))
+    lines_single words one e = e ∙ ap (λ zs. after (wide (kins_of zs))) (take_rest es 1) ∙ ap after (sym (wide_past es 0 x some is one))
 
     -- the rows of a wider line, and then those of the later ones
-    pub lines_more : (follows : Bool) (new rest : List ℕ) → 1 < x.geometry.ways → follows ≡ (nesting x.geometry.member && any_of x.geometry.member (wide (kin_of (drop 1 es))))
+    pub lines_more : (follows : Bool) (new rest : List ℕ) → 1 < x.geometry.ways → follows ≡ (nesting x.geometry.member && any_of x.geometry.member (wide (kins_of (drop 1 es))))
         → new ≡ laid (replicate sets (new_row s follows x.geometry.member (x.geometry.ways + 1))) ++ drop (line_words sets x.geometry.ways) (take (line_words sets x.geometry.ways) ws)
-        → rest ≡ started_lines s sets (wide (kin_of (drop 1 es))) ++ drop (lines_words sets (wide (kin_of (drop 1 es)))) (drop (line_words sets x.geometry.ways) ws)
-        → new ++ rest ≡ after (wide (kin_of es))
+        → rest ≡ started_lines s sets (wide (kins_of (drop 1 es))) ++ drop (lines_words sets (wide (kins_of (drop 1 es)))) (drop (line_words sets x.geometry.ways) ws)
+        → new ++ rest ≡ after (wide (kins_of es))
     lines_more follows new rest two ef en er =
         let rows : Bool → List ℕ = λ f. laid (replicate sets (new_row s f x.geometry.member (x.geometry.ways + 1))) in
         let n = line_words sets x.geometry.ways in
-        let ks = wide (kin_of (drop 1 es)) in
+        let ks = wide (kins_of (drop 1 es)) in
         then_started n (lines_words sets ks) (rows (nesting x.geometry.member && any_of x.geometry.member ks)) (started_lines s sets ks) ws new rest
         (en ∙ ap (λ f. rows f ++ drop n (take n ws)) ef) er ∙ ap after (sym (wide_next es 0 x some is two))

@@ -3,54 +3,54 @@ use Rattle.std.proofs.Common.{◌≡◌, ℕ, zero, suc, ◌+◌, ◌-◌, ◌^�
 use borrow.Rule.Slice.PartMut.{put_mid}
 use Rattle.std.proofs.lemmas.List.{length-take}
 use Rattle.std.proofs.lemmas.Bool.{and_from, and_parts, cond-true, cond-false, eq-eqb, eqb-true}
-use Rattle.bench.specs.Entries.{entry_kin}
+use Rattle.bench.specs.OpenLines.{line_kin}
 use Rattle.bench.specs.Joins.{Joins, added, joins_family, joins_level, linked, placed, rows, whole}
 use Rattle.bench.specs.Level.{level_words}
 use Rattle.bench.specs.Spans.{LevelSpan, Linked, SpansFamilies, SpansLevels, config, configs, levels_lines}
 use Rattle.bench.specs.Table.{Family, Level, families, families_words, in_families, in_levels, levels_words, new_family, new_level}
 use Rattle.bench.specs.Words.{row_words}
 use Rattle.bench.proofs.Sizes.{power_eqb, wide_words}
-use Rattle.bench.specs.declared.entry.Entry.{Entry}
+use Rattle.bench.specs.declared.open_line.OpenLine.{OpenLine}
 use Rattle.bench.proofs.RowWords.{first_kept}
 use Rattle.bench.proofs.FamiliesSwept.{family_lines, first_family}
 use Rattle.bench.proofs.LevelsSwept.{first_level, level_lines}
 
 -- a level of its own
-new_words : (x : Entry) → level_words (2 ^ x.geometry.set_bits) (entry_kin x ∷ []) ≡ whole x.geometry
-new_words x = omega (arith, wide_words (2 ^ x.geometry.set_bits) (entry_kin x) [])
+new_words : (x : OpenLine) → level_words (2 ^ x.geometry.set_bits) (line_kin x ∷ []) ≡ whole x.geometry
+new_words x = omega (arith, wide_words (2 ^ x.geometry.set_bits) (line_kin x) [])
 
-level_new : (x : Entry) (xs : List Entry) → x.level.lines ≡ 1 → x.level.words ≡ whole x.geometry → LevelSpan (2 ^ x.geometry.block_bits) (new_level (config x)) x (x ∷ xs)
+level_new : (x : OpenLine) (xs : List OpenLine) → x.level.lines ≡ 1 → x.level.words ≡ whole x.geometry → LevelSpan (2 ^ x.geometry.block_bits) (new_level (config x)) x (x ∷ xs)
 level_new x xs n w = record { block = refl; sets = refl; lines = n; words = w ∙ sym (new_words x); kin = refl; some = omega arith }
 
 -- the level of the next line
-level_in : (b : ℕ) (l : Level) (x y : Entry) (ys : List Entry) → 2 ^ x.geometry.block_bits ≡ b → 2 ^ x.geometry.set_bits ≡ l.sets → LevelSpan b l y (y ∷ ys)
+level_in : (b : ℕ) (l : Level) (x y : OpenLine) (ys : List OpenLine) → 2 ^ x.geometry.block_bits ≡ b → 2 ^ x.geometry.set_bits ≡ l.sets → LevelSpan b l y (y ∷ ys)
     → x.level.lines ≡ y.level.lines + 1 → x.level.words ≡ y.level.words + rows x.geometry
-    → LevelSpan b (record { sets = l.sets; lines = entry_kin x ∷ l.lines }) x (x ∷ y ∷ ys)
+    → LevelSpan b (record { sets = l.sets; lines = line_kin x ∷ l.lines }) x (x ∷ y ∷ ys)
 level_in b l x y ys eb es L n w = record {
   block = eb;
   sets = es;
   lines = omega (arith, L.lines);
-  words = omega (arith, L.words, w, wide_words l.sets (entry_kin x) l.lines, ap (λ n. row_words n (entry_kin x)) es);
-  kin = ap (λ ks. entry_kin x ∷ ks) L.kin;
+  words = omega (arith, L.words, w, wide_words l.sets (line_kin x) l.lines, ap (λ n. row_words n (line_kin x)) es);
+  kin = ap (λ ks. line_kin x ∷ ks) L.kin;
   some = omega arith;
 }
 
 -- the words of a level with one line more
-level_more : (s : ℕ) (x : Entry) (l : Level) → 2 ^ x.geometry.set_bits ≡ l.sets → level_words l.sets (entry_kin x ∷ l.lines) ≡ level_words l.sets l.lines + rows x.geometry
-level_more s x l es = omega (arith, wide_words l.sets (entry_kin x) l.lines, ap (λ n. row_words n (entry_kin x)) es)
+level_more : (s : ℕ) (x : OpenLine) (l : Level) → 2 ^ x.geometry.set_bits ≡ l.sets → level_words l.sets (line_kin x ∷ l.lines) ≡ level_words l.sets l.lines + rows x.geometry
+level_more s x l es = omega (arith, wide_words l.sets (line_kin x) l.lines, ap (λ n. row_words n (line_kin x)) es)
 
 -- a block size of its own
-pub family_new : (x : Entry) (xs : List Entry) (fs : List Family) → x.level.lines ≡ 1 → x.level.words ≡ whole x.geometry → x.family.lines ≡ 1 → x.family.words ≡ whole x.geometry
+pub family_new : (x : OpenLine) (xs : List OpenLine) (fs : List Family) → x.level.lines ≡ 1 → x.level.words ≡ whole x.geometry → x.family.lines ≡ 1 → x.family.words ≡ whole x.geometry
     → SpansFamilies fs xs → SpansFamilies (new_family (config x) ∷ fs) (x ∷ xs)
 family_new x xs fs n w fn fw S = (record { block = refl; lines = fn; words = omega (arith, fw, new_words x); some = omega arith }, ((level_new x [] n w, refl), S))
 
 -- the levels of the next line's block size
-pub record Levels (b : ℕ) (x : Entry) (xs : List Entry) (ls ls' : List Level) (more : ℕ) : Type 0 where
+pub record Levels (b : ℕ) (x : OpenLine) (xs : List OpenLine) (ls ls' : List Level) (more : ℕ) : Type 0 where
   pub spans : SpansLevels b ls' (x ∷ xs)
   pub lines : levels_lines ls' ≡ suc (levels_lines ls)
   pub words : levels_words ls' ≡ levels_words ls + more
 
-levels_join : (b : ℕ) (x y : Entry) (ys : List Entry) (ls : List Level) (words : ℕ) → 2 ^ x.geometry.block_bits ≡ b → joins_family x.geometry y ≡ true → SpansLevels b ls (y ∷ ys) → Joins x.geometry y x.level x.family words → Levels b x (y ∷ ys) ls (in_levels (config x) ls) words
+levels_join : (b : ℕ) (x y : OpenLine) (ys : List OpenLine) (ls : List Level) (words : ℕ) → 2 ^ x.geometry.block_bits ≡ b → joins_family x.geometry y ≡ true → SpansLevels b ls (y ∷ ys) → Joins x.geometry y x.level x.family words → Levels b x (y ∷ ys) ls (in_levels (config x) ls) words
 levels_join b x y ys [] words eb jf S J = let z : suc (length ys) ≡ 0 = ap length S in absurd (omega arith)
 levels_join b x y ys (l ∷ ls) words eb jf S J = go (eqb x.geometry.set_bits y.geometry.set_bits) refl
   where
@@ -63,7 +63,7 @@ levels_join b x y ys (l ∷ ls) words eb jf S J = go (eqb x.geometry.set_bits y.
     go : (c : Bool) → eqb x.geometry.set_bits y.geometry.set_bits ≡ c → Levels b x (y ∷ ys) (l ∷ ls) (in_levels (config x) (l ∷ ls)) words
     go true e =
         let j = joined true e in
-        let l' : Level = record { sets = l.sets; lines = entry_kin x ∷ l.lines } in
+        let l' : Level = record { sets = l.sets; lines = line_kin x ∷ l.lines } in
         let is : in_levels (config x) (l ∷ ls) ≡ l' ∷ ls = cond-true (eqb (2 ^ x.geometry.set_bits) l.sets) (l' ∷ ls) (new_level (config x) ∷ l ∷ ls) (same ∙ e) in
         let es : 2 ^ x.geometry.set_bits ≡ l.sets = eqb-true (2 ^ x.geometry.set_bits) l.sets (same ∙ e) in
         let n = J.level_lines ∙ cond-true (joins_level x.geometry y) (y.level.lines + 1) 1 j in
@@ -76,7 +76,7 @@ levels_join b x y ys (l ∷ ls) words eb jf S J = go (eqb x.geometry.set_bits y.
         })
     go false e =
         let j = joined false e in
-        let l' : Level = record { sets = l.sets; lines = entry_kin x ∷ l.lines } in
+        let l' : Level = record { sets = l.sets; lines = line_kin x ∷ l.lines } in
         let is : in_levels (config x) (l ∷ ls) ≡ new_level (config x) ∷ l ∷ ls = cond-false (eqb (2 ^ x.geometry.set_bits) l.sets) (l' ∷ ls) (new_level (config x) ∷ l ∷ ls) (same ∙ e) in
         let n = J.level_lines ∙ cond-false (joins_level x.geometry y) (y.level.lines + 1) 1 j in
         let w = J.level_words ∙ cond-false (joins_level x.geometry y) (y.level.words + rows x.geometry) (whole x.geometry) j in
@@ -88,11 +88,11 @@ levels_join b x y ys (l ∷ ls) words eb jf S J = go (eqb x.geometry.set_bits y.
         })
 
 -- a line before others
-pub record Joined (x : Entry) (xs : List Entry) (fs fs' : List Family) (more : ℕ) : Type 0 where
+pub record Joined (x : OpenLine) (xs : List OpenLine) (fs fs' : List Family) (more : ℕ) : Type 0 where
   pub spans : SpansFamilies fs' (x ∷ xs)
   pub words : families_words fs' ≡ families_words fs + more
 
-pub joined : (x y : Entry) (ys : List Entry) (fs : List Family) (words : ℕ) → SpansFamilies fs (y ∷ ys) → Joins x.geometry y x.level x.family words → Joined x (y ∷ ys) fs (in_families (config x) fs) words
+pub joined : (x y : OpenLine) (ys : List OpenLine) (fs : List Family) (words : ℕ) → SpansFamilies fs (y ∷ ys) → Joins x.geometry y x.level x.family words → Joined x (y ∷ ys) fs (in_families (config x) fs) words
 joined x y ys [] words S J = let z : suc (length ys) ≡ 0 = ap length S in absurd (omega arith)
 joined x y ys (f ∷ fs) words S J = go (joins_family x.geometry y) refl
   where
@@ -142,18 +142,18 @@ all_four : (a b c d : Bool) → a ≡ true → b ≡ true → c ≡ true → d �
 all_four a b c d ea eb ec ed = and_from a _ ea (and_from b _ eb (and_from c d ec ed))
 
 -- what the tests say
-placed_joins : (x y : Entry) (ys : List Entry) → placed x (y ∷ ys) ≡ true → Joins x.geometry y x.level x.family (added x.geometry y)
+placed_joins : (x y : OpenLine) (ys : List OpenLine) → placed x (y ∷ ys) ≡ true → Joins x.geometry y x.level x.family (added x.geometry y)
 placed_joins x y ys h =
     let p = four _ _ _ _ h in
     record { adds = refl; level_lines = eqb-true _ _ p.0; level_words = eqb-true _ _ p.1.0; family_lines = eqb-true _ _ p.1.1.0; family_words = eqb-true _ _ p.1.1.1 }
 
-joins_placed : (x y : Entry) (ys : List Entry) (words : ℕ) → Joins x.geometry y x.level x.family words → placed x (y ∷ ys) ≡ true
+joins_placed : (x y : OpenLine) (ys : List OpenLine) (words : ℕ) → Joins x.geometry y x.level x.family words → placed x (y ∷ ys) ≡ true
 joins_placed x y ys words J =
     all_four _ _ _ _ (eq-eqb _ _ J.level_lines) (eq-eqb _ _ J.level_words) (eq-eqb _ _ J.family_lines)
     (eq-eqb _ _ (J.family_words ∙ ap (λ n. cond (joins_family x.geometry y) (y.family.words + n) (whole x.geometry)) J.adds))
 
 -- linked lines span the levels of their table
-pub linked_spans : (xs : List Entry) → linked xs ≡ true → SpansFamilies (families (map config xs)) xs
+pub linked_spans : (xs : List OpenLine) → linked xs ≡ true → SpansFamilies (families (map config xs)) xs
 linked_spans [] h = refl
 linked_spans (x ∷ []) h =
     let p = four _ _ _ _ (and_parts (placed x []) true h).0 in
@@ -161,12 +161,12 @@ linked_spans (x ∷ []) h =
 linked_spans (x ∷ y ∷ ys) h =
     (joined x y ys (families (map config (y ∷ ys))) (added x.geometry y) (linked_spans (y ∷ ys) (and_parts (placed x (y ∷ ys)) (linked (y ∷ ys)) h).1) (placed_joins x y ys (and_parts (placed x (y ∷ ys)) (linked (y ∷ ys)) h).0)).spans
 
-pub linked_none : (es : List Entry) → length es ≡ 0 → Linked es es 0
+pub linked_none : (es : List OpenLine) → length es ≡ 0 → Linked es es 0
 linked_none [] e = record { geometry = refl; spans = refl; need = refl; small = omega arith }
 linked_none (x ∷ es) e = absurd (omega arith)
 
 -- the only line
-pub linked_one : (es es'' : List Entry) (x d : Entry) (n : ℕ) → length es ≡ 1 → length es'' ≡ 0 → x.geometry ≡ (get_or es 0 d).geometry
+pub linked_one : (es es'' : List OpenLine) (x d : OpenLine) (n : ℕ) → length es ≡ 1 → length es'' ≡ 0 → x.geometry ≡ (get_or es 0 d).geometry
     → x.level.lines ≡ 1 → x.level.words ≡ whole x.geometry → x.family.lines ≡ 1 → x.family.words ≡ whole x.geometry → n ≡ whole x.geometry → n ≤ 327680 → Linked es (x ∷ es'') n
 linked_one [] es'' x d n one none eg ll lw fl fw en small = absurd (omega arith)
 linked_one (y ∷ z ∷ es) es'' x d n one none eg ll lw fl fw en small = absurd (omega arith)
@@ -179,7 +179,7 @@ linked_one (y ∷ []) [] x d n one none eg ll lw fl fw en small = record {
 }
 
 -- a line before others
-pub linked_more : (es es'' : List Entry) (x y d : Entry) (later n : ℕ) → 0 < length es → 0 < length es'' → y ≡ get_or es'' 0 y → x.geometry ≡ (get_or es 0 d).geometry
+pub linked_more : (es es'' : List OpenLine) (x y d : OpenLine) (later n : ℕ) → 0 < length es → 0 < length es'' → y ≡ get_or es'' 0 y → x.geometry ≡ (get_or es 0 d).geometry
     → Linked (drop 1 es) es'' later → Joins x.geometry y x.level x.family n → n ≤ 327680 → Linked es (x ∷ es'') (later + n)
 linked_more [] es'' x y d later n some next ey eg L J small = absurd (not-suc-le-zero some)
 linked_more (z ∷ es) [] x y d later n some next ey eg L J small = absurd (not-suc-le-zero next)
@@ -194,7 +194,7 @@ linked_more (z ∷ es) (w ∷ es'') x y d later n some next ey eg L J small =
     }
 
 -- a first line has fewer than 64 lines in its spans, where there are fewer than 64 lines
-pub spans_few : (es : List Entry) (x : Entry) → x ≡ get_or es 0 x → 0 < length es → length es < 64 → linked es ≡ true → (x.level.lines < 64) × (x.family.lines < 64)
+pub spans_few : (es : List OpenLine) (x : OpenLine) → x ≡ get_or es 0 x → 0 < length es → length es < 64 → linked es ≡ true → (x.level.lines < 64) × (x.family.lines < 64)
 spans_few [] x is some few S = absurd (not-suc-le-zero some)
 spans_few (y ∷ ys) x is some few S =
     let F = first_family (families (configs (y ∷ ys))) (y ∷ ys) x is some (linked_spans (y ∷ ys) S) in
@@ -210,5 +210,5 @@ others_there n zero h e = absurd (h e)
 others_there n (suc m) h e = omega arith
 
 -- the first line with its spans, the others as the recursion left them
-pub entries_after : (es es'' : List Entry) (x : Entry) → 0 < length es → set (put_mid 1 (length es - 1) es es'') 0 x ≡ x ∷ es''
+pub entries_after : (es es'' : List OpenLine) (x : OpenLine) → 0 < length es → set (put_mid 1 (length es - 1) es es'') 0 x ≡ x ∷ es''
 entries_after es es'' x l = ap (λ zs. set zs 0 x) (first_kept x es es'' l)

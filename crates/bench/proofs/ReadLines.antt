@@ -10,7 +10,7 @@ use Rattle.geometry.specs.declared.line.Line.{Line}
 use Rattle.bench.specs.Opened.{at_line, in_order, lines_refusal, or_else, unless}
 use Rattle.bench.specs.Spans.{config, configs}
 use Rattle.bench.specs.Table.{Config, config_of, named}
-use Rattle.bench.specs.declared.entry.Entry.{Entry}
+use Rattle.bench.specs.declared.open_line.OpenLine.{OpenLine}
 
 abbrev pub asked : Three → Option Line → Line → Option ℕ
 asked p last l = first_no (line_questions p l ++ (ask 10 (in_order last l) ∷ []))
@@ -31,7 +31,7 @@ pub none_left : (p : Three) (last : Option Line) (lines : List Line) (k : ℕ) �
 none_left p last lines k h = ap (lines_refusal p (k + 1) last) (drop_all k lines h)
 
 -- an entry is the line that it was read from
-pub same-config : (p : Three) (line : Line) (x : Entry) → GeometryOf p line x.geometry → config x ≡ config_of p line
+pub same-config : (p : Three) (line : Line) (x : OpenLine) → GeometryOf p line x.geometry → config x ≡ config_of p line
 same-config p line x G =
     let g = x.geometry in
     ap (λ m. record { member = m; block = 2 ^ g.block_bits; sets = 2 ^ g.set_bits; ways = g.ways }) (sym (ap named G.member))
@@ -40,7 +40,7 @@ same-config p line x G =
     ∙ ap (λ n. record { member = named (which p line.letter); block = line.block; sets = line.sets; ways = n }) (sym G.ways)
 
 -- one entry more
-module _ (p : Three) (es : List Entry) (lines : List Line) (k : ℕ) (d : Line) (x : Entry) (room : k < length es) (low : k < length lines) where
+module _ (p : Three) (es : List OpenLine) (lines : List Line) (k : ℕ) (d : Line) (x : OpenLine) (room : k < length es) (low : k < length lines) where
   pub configs_more : config x ≡ config_of p (get_or lines k d) → configs (take k es) ≡ map (config_of p) (take k lines) → configs (take (k + 1) (set es k x)) ≡ map (config_of p) (take (k + 1) lines)
   configs_more e so_far =
       ap configs (take_more_set es k x room)
@@ -54,11 +54,11 @@ module _ (p : Three) (es : List Entry) (lines : List Line) (k : ℕ) (d : Line) 
 abbrev of_geometry : Geometry → Config
 of_geometry g = record { member = g.member; block = 2 ^ g.block_bits; sets = 2 ^ g.set_bits; ways = g.ways }
 
-by_geometry : (es : List Entry) → configs es ≡ map of_geometry (map (λ x. x.geometry) es)
+by_geometry : (es : List OpenLine) → configs es ≡ map of_geometry (map (λ x. x.geometry) es)
 by_geometry [] = refl
 by_geometry (x ∷ es) = ap (λ cs. config x ∷ cs) (by_geometry es)
 
-pub same-configs : (es es' : List Entry) → map (λ x. x.geometry) es' ≡ map (λ x. x.geometry) es → configs es' ≡ configs es
+pub same-configs : (es es' : List OpenLine) → map (λ x. x.geometry) es' ≡ map (λ x. x.geometry) es → configs es' ≡ configs es
 same-configs es es' e = by_geometry es' ∙ ap (map of_geometry) e ∙ sym (by_geometry es)
 
 -- a table of 1 to 64 lines

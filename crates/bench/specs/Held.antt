@@ -2,12 +2,12 @@
 use Rattle.std.specs.Prelude.{ℕ, List, take}
 use Rattle.bench.specs.Spans.{configs}
 use Rattle.bench.specs.State.{Bench, State}
-use Rattle.bench.specs.declared.entry.Entry.{Entry}
+use Rattle.bench.specs.declared.open_line.OpenLine.{OpenLine}
 use Rattle.bench.specs.declared.held.Held.{Held}
 use Rattle.bench.specs.declared.table.Table.{Table}
 
 -- the lines of a table that are in use
-abbrev pub lines_of : Table → List Entry
+abbrev pub lines_of : Table → List OpenLine
 lines_of t = take t.count t.lines
 
 abbrev pub state_of : Held → State

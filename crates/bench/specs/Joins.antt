@@ -2,8 +2,8 @@
 use Rattle.std.specs.Prelude.{◌≡◌, ℕ, ◌+◌, ◌*◌, ◌^◌, Bool, true, cond, ◌&&◌, List, [], ◌∷◌, ◌==◌}
 use Rattle.geometry.specs.declared.geometry.Geometry.{Geometry}
 use Rattle.bench.specs.Words.{row_words}
-use Rattle.bench.specs.declared.entry.Entry.{Entry}
-use Rattle.bench.specs.declared.entry.Span.{Span}
+use Rattle.bench.specs.declared.open_line.OpenLine.{OpenLine}
+use Rattle.bench.specs.declared.open_line.Span.{Span}
 
 -- the words of a line's rows, and with those of a level's direct-mapped cache
 abbrev pub rows : Geometry → ℕ
@@ -13,14 +13,14 @@ abbrev pub whole : Geometry → ℕ
 whole g = 2 * 2 ^ g.set_bits + rows g
 
 -- the same block size, and the same level
-abbrev pub joins_family : Geometry → Entry → Bool
+abbrev pub joins_family : Geometry → OpenLine → Bool
 joins_family g y = g.block_bits == y.geometry.block_bits
 
-abbrev pub joins_level : Geometry → Entry → Bool
+abbrev pub joins_level : Geometry → OpenLine → Bool
 joins_level g y = joins_family g y && g.set_bits == y.geometry.set_bits
 
 -- the spans of the line, and the words that it adds
-pub record Joins (g : Geometry) (y : Entry) (level family : Span) (words : ℕ) : Type 0 where
+pub record Joins (g : Geometry) (y : OpenLine) (level family : Span) (words : ℕ) : Type 0 where
   pub adds : words ≡ cond (joins_level g y) (rows g) (whole g)
   pub level_lines : level.lines ≡ cond (joins_level g y) (y.level.lines + 1) 1
   pub level_words : level.words ≡ cond (joins_level g y) (y.level.words + rows g) (whole g)
@@ -28,11 +28,11 @@ pub record Joins (g : Geometry) (y : Entry) (level family : Span) (words : ℕ) 
   pub family_words : family.words ≡ cond (joins_family g y) (y.family.words + words) (whole g)
 
 -- the words that a line adds to those of the lines after it
-abbrev pub added : Geometry → Entry → ℕ
+abbrev pub added : Geometry → OpenLine → ℕ
 added g y = cond (joins_level g y) (rows g) (whole g)
 
 -- whether a line has the spans that it must have before the lines xs
-abbrev pub placed : Entry → List Entry → Bool
+abbrev pub placed : OpenLine → List OpenLine → Bool
 placed x [] =
     (x.level.lines == 1) && (x.level.words == whole x.geometry
     && (x.family.lines == 1 && x.family.words == whole x.geometry))
@@ -43,6 +43,6 @@ placed x (y ∷ ys) =
     && x.family.words == cond (joins_family x.geometry y) (y.family.words + added x.geometry y) (whole x.geometry)))
 
 -- and whether all lines have
-abbrev pub linked : List Entry → Bool
+abbrev pub linked : List OpenLine → Bool
 linked [] = true
 linked (x ∷ xs) = placed x xs && linked xs

@@ -4,6 +4,7 @@ pub mod Mixed
 pub mod Beside
 pub mod Words
 pub mod Entries
+pub mod OpenLines
 pub mod Direct
 pub mod Group
 pub mod Level

@@ -4,20 +4,19 @@ ghost use Rattle.policy.specs.Three.{three};
 ghost use Rattle.bench.specs.Direct.{direct_hit};
 ghost use Rattle.bench.specs.Entries.{kin_of};
 ghost use Rattle.bench.specs.Lead.{leads_seen};
-ghost use Rattle.bench.specs.Level.{Done, level_words, visit};
+ghost use Rattle.bench.specs.Level.{LevelVisited, level_words};
 ghost use Rattle.bench.specs.Mixed.{no_leads, own_step};
 ghost use Rattle.bench.specs.Suite.{suite};
 
 use crate::direct::visit_direct;
 use crate::entry::Entry;
 use crate::lead::{Lead, Leads, ROW_WORDS};
-use crate::miss::Misses;
 use crate::rows::{Place, sweep_rows};
 use policy::three::Policies;
 use policy::traits::{Nesting, Policy};
 
 // Nothing is told yet.
-fn no_leads() -> Leads
+pub(crate) fn no_leads() -> Leads
     ensures { leads_seen result ≡ no_leads }
 {
     let none = Lead {
@@ -36,14 +35,13 @@ fn no_leads() -> Leads
 // Visits a level: whether its direct-mapped cache hit, and the comparisons that are reported.
 pub(crate) fn visit_level<A: Nesting, B: Nesting, C: Policy>(
     policies: &Policies<A, B, C>,
-    lines: &[Entry],
-    misses: &mut [Misses],
+    lines: &mut [Entry],
     words: &mut [u32],
     at: Place,
 ) -> (bool, u64)
-    requires { (length misses.old ≡ length lines.now) × ((level_words at.sets (kin_of lines.now) ≤ length words.old) × ((at.set < at.sets) × (at.kind < 3))) }
+    requires { (level_words at.sets (kin_of lines.old) ≤ length words.old) × ((at.set < at.sets) × (at.kind < 3)) }
     ensures hit { result.0 ≡ direct_hit words.old at.set at.tag }
-    ensures visited { Done (visit (own_step (suite (three A.Policy.meaning B.Policy.meaning C.Policy.meaning) A.Nesting.nest B.Nesting.nest)) at.sets at.set at.tag (kin_of lines.now) words.old) at.kind misses.old misses.new words.new result.1 }
+    ensures visited { LevelVisited (own_step (suite (three A.Policy.meaning B.Policy.meaning C.Policy.meaning) A.Nesting.nest B.Nesting.nest)) at.sets at.set at.tag at.kind lines.old words.old lines.new words.new result.1 }
 {
     let (hit, seen) = visit_direct(words, at.set, at.tag);
     if hit {
@@ -51,6 +49,6 @@ pub(crate) fn visit_level<A: Nesting, B: Nesting, C: Policy>(
     }
     let base = 2 * at.sets;
     let mut leads = no_leads();
-    let compared = sweep_rows(policies, lines, misses, &mut words[base..], at, &mut leads);
+    let compared = sweep_rows(policies, lines, &mut words[base..], at, &mut leads);
     (false, compared.saturating_add(seen))
 }

@@ -8,8 +8,8 @@ ghost use Rattle.bench.specs.Refused.{no_of};
 ghost use Rattle.bench.specs.Spans.{configs};
 ghost use Rattle.bench.specs.Table.{config_of};
 
-use crate::entry::{Entry, Span};
 use crate::link::link;
+use crate::open_line::{OpenLine, Span};
 use crate::refused::Refused;
 use crate::table::Table;
 use geometry::geometry::Geometry;
@@ -61,11 +61,11 @@ fn check_line<A: Nesting, B: Nesting, C: Policy>(
 }
 
 // A line that does not know yet where its level ends.
-fn new_entry(geometry: Geometry) -> Entry
+fn new_entry(geometry: Geometry) -> OpenLine
     ensures { result.geometry ≡ geometry }
 {
     let none = Span { lines: 0, words: 0 };
-    Entry {
+    OpenLine {
         geometry,
         level: none,
         family: none,
@@ -76,7 +76,7 @@ fn new_entry(geometry: Geometry) -> Entry
 fn read_lines<A: Nesting, B: Nesting, C: Policy>(
     policies: &Policies<A, B, C>,
     lines: &[Line],
-    entries: &mut [Entry],
+    entries: &mut [OpenLine],
 ) -> Result<(), Refused>
     requires { (length lines.now ≤ length entries.old) × (length lines.now ≤ 64) }
     ensures passes { MatchResult result (λ _. lines_refusal (three A.Policy.meaning B.Policy.meaning C.Policy.meaning) 1 None lines.now ≡ None) (λ e. lines_refusal (three A.Policy.meaning B.Policy.meaning C.Policy.meaning) 1 None lines.now ≡ Some (no_of e)) }

@@ -4,7 +4,7 @@ ghost use Rattle.bench.specs.Joins.{Joins, whole};
 ghost use Rattle.bench.specs.Spans.{Linked};
 ghost use Rattle.bench.specs.Words.{row_words};
 
-use crate::entry::{Entry, Span};
+use crate::open_line::{OpenLine, Span};
 use geometry::geometry::Geometry;
 
 // The words of a line's rows.
@@ -30,7 +30,7 @@ fn longer(span: &Span, words: usize) -> Span
     }
 }
 
-impl Entry {
+impl OpenLine {
     // The line has a block size of its own; answers its words.
     fn stand_alone(&mut self) -> usize
         ensures geometry { self.new.geometry ≡ self.old.geometry }
@@ -47,7 +47,7 @@ impl Entry {
     }
 
     // The line stands before others of which the first is `next`; answers the words that it adds to theirs.
-    fn join(&mut self, next: &Entry) -> usize
+    fn join(&mut self, next: &OpenLine) -> usize
         requires { (next.now.level.lines < 64) × (next.now.family.lines < 64) }
         ensures geometry { self.new.geometry ≡ self.old.geometry }
         ensures joins { Joins self.old.geometry next.now self.new.level self.new.family result }
@@ -69,7 +69,7 @@ impl Entry {
 }
 
 // Tells each line where its level and its block size end; answers the words that all of them need.
-pub(crate) fn link(lines: &mut [Entry]) -> usize
+pub(crate) fn link(lines: &mut [OpenLine]) -> usize
     requires { length lines.old ≤ 64 }
     ensures { Linked lines.old lines.new result }
 {

@@ -10,7 +10,6 @@ ghost use Rattle.bench.specs.Words.{lines_words, wide};
 
 use crate::entry::Entry;
 use crate::lead::Leads;
-use crate::miss::{Misses, count_miss};
 use crate::owned::step_owned;
 use policy::three::Policies;
 use policy::traits::{Nesting, Policy};
@@ -27,38 +26,30 @@ pub(crate) struct Place {
 // Sweeps the rows of one set, the widest line first, and counts misses; answers the comparisons that are reported.
 pub(crate) fn sweep_rows<A: Nesting, B: Nesting, C: Policy>(
     policies: &Policies<A, B, C>,
-    lines: &[Entry],
-    misses: &mut [Misses],
+    lines: &mut [Entry],
     words: &mut [u32],
     at: Place,
     leads: &mut Leads,
 ) -> u64
-    requires { (length misses.old ≡ length lines.now) × ((lines_words at.sets (wide (kin_of lines.now)) ≤ length words.old) × ((at.set < at.sets) × ((at.kind < 3) × (leads_seen leads.old ≡ no_leads)))) }
-    ensures { RowsSwept (own_step (suite (three A.Policy.meaning B.Policy.meaning C.Policy.meaning) A.Nesting.nest B.Nesting.nest)) at.sets at.set at.tag at.kind lines.now misses.old words.old misses.new words.new result (leads_seen leads.new) }
+    requires { (lines_words at.sets (wide (kin_of lines.old)) ≤ length words.old) × ((at.set < at.sets) × ((at.kind < 3) × (leads_seen leads.old ≡ no_leads))) }
+    ensures { RowsSwept (own_step (suite (three A.Policy.meaning B.Policy.meaning C.Policy.meaning) A.Nesting.nest B.Nesting.nest)) at.sets at.set at.tag at.kind lines.old words.old lines.new words.new result (leads_seen leads.new) }
 {
     if lines.is_empty() {
         return 0;
     }
-    let ways = lines[0].geometry.ways;
-    let member = lines[0].geometry.member;
+    let ways = lines[0].ways;
+    let member = lines[0].member;
     if ways <= 1 {
-        let compared = sweep_rows(policies, &lines[1..], &mut misses[1..], words, at, leads);
-        count_miss(&mut misses[0], at.kind, false);
+        let compared = sweep_rows(policies, &mut lines[1..], words, at, leads);
+        lines[0].count(at.kind, false);
         return compared;
     }
     let width = ways + 2;
     let size = at.sets * width;
-    let wider = sweep_rows(
-        policies,
-        &lines[1..],
-        &mut misses[1..],
-        &mut words[size..],
-        at,
-        leads,
-    );
+    let wider = sweep_rows(policies, &mut lines[1..], &mut words[size..], at, leads);
     let from = at.set * width;
     let to = from + width;
     let (hit, compared) = step_owned(policies, member, &mut words[from..to], at.tag, leads);
-    count_miss(&mut misses[0], at.kind, hit);
+    lines[0].count(at.kind, hit);
     wider.saturating_add(compared as u64)
 }

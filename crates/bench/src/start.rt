@@ -2,7 +2,7 @@
 ghost use Rattle.std.specs.Prelude.{◌≡◌, ◌+◌, ◌-◌, ◌<◌, ◌≤◌, ◌&&◌, ◌++◌, length, drop, replicate};
 ghost use Rattle.policy.specs.Three.{three};
 ghost use Rattle.standalone.specs.Rows.{laid};
-ghost use Rattle.bench.specs.Entries.{kin_of};
+ghost use Rattle.bench.specs.OpenLines.{kins_of};
 ghost use Rattle.bench.specs.Level.{level_words};
 ghost use Rattle.bench.specs.Spans.{FamiliesFit, LevelsFit};
 ghost use Rattle.bench.specs.Start.{any_of, started_level, started_lines};
@@ -10,7 +10,7 @@ ghost use Rattle.bench.specs.Started.{FamiliesStarted, LevelsStarted, new_row};
 ghost use Rattle.bench.specs.Suite.{nesting, suite};
 ghost use Rattle.bench.specs.Words.{line_words, lines_words, wide};
 
-use crate::entry::Entry;
+use crate::open_line::OpenLine;
 use policy::three::{Member, Policies};
 use policy::traits::{Nesting, Policy};
 
@@ -25,8 +25,8 @@ fn nests(member: Member) -> bool
 }
 
 // Whether one of the wider lines is of the policy.
-fn any_of(lines: &[Entry], member: Member) -> bool
-    ensures { result ≡ any_of member (wide (kin_of lines.now)) }
+fn any_of(lines: &[OpenLine], member: Member) -> bool
+    ensures { result ≡ any_of member (wide (kins_of lines.now)) }
 {
     for line in lines {
         if line.geometry.ways > 1 && member == line.geometry.member {
@@ -37,8 +37,8 @@ fn any_of(lines: &[Entry], member: Member) -> bool
 }
 
 // Whether a row of the policy follows: the policy nests, and one of the later lines is of it.
-fn follows(member: Member, later: &[Entry]) -> bool
-    ensures { result ≡ (nesting member && any_of member (wide (kin_of later.now))) }
+fn follows(member: Member, later: &[OpenLine]) -> bool
+    ensures { result ≡ (nesting member && any_of member (wide (kins_of later.now))) }
 {
     nests(member) && any_of(later, member)
 }
@@ -85,12 +85,12 @@ fn start_line<A: Nesting, B: Nesting, C: Policy>(
 // Starts the rows of the wider lines of a level, one line after the other.
 fn start_lines<A: Nesting, B: Nesting, C: Policy>(
     policies: &Policies<A, B, C>,
-    lines: &[Entry],
+    lines: &[OpenLine],
     sets: usize,
     words: &mut [u32],
 )
-    requires { lines_words sets (wide (kin_of lines.now)) ≤ length words.old }
-    ensures { words.new ≡ started_lines (suite (three A.Policy.meaning B.Policy.meaning C.Policy.meaning) A.Nesting.nest B.Nesting.nest) sets (wide (kin_of lines.now)) ++ drop (lines_words sets (wide (kin_of lines.now))) words.old }
+    requires { lines_words sets (wide (kins_of lines.now)) ≤ length words.old }
+    ensures { words.new ≡ started_lines (suite (three A.Policy.meaning B.Policy.meaning C.Policy.meaning) A.Nesting.nest B.Nesting.nest) sets (wide (kins_of lines.now)) ++ drop (lines_words sets (wide (kins_of lines.now))) words.old }
 {
     if lines.is_empty() {
         return;
@@ -111,12 +111,12 @@ fn start_lines<A: Nesting, B: Nesting, C: Policy>(
 // Starts a level: an empty direct-mapped cache, then the rows of its wider lines.
 fn start_level<A: Nesting, B: Nesting, C: Policy>(
     policies: &Policies<A, B, C>,
-    lines: &[Entry],
+    lines: &[OpenLine],
     sets: usize,
     words: &mut [u32],
 )
-    requires { level_words sets (kin_of lines.now) ≤ length words.old }
-    ensures { words.new ≡ started_level (suite (three A.Policy.meaning B.Policy.meaning C.Policy.meaning) A.Nesting.nest B.Nesting.nest) (record { sets = sets; lines = kin_of lines.now }) ++ drop (level_words sets (kin_of lines.now)) words.old }
+    requires { level_words sets (kins_of lines.now) ≤ length words.old }
+    ensures { words.new ≡ started_level (suite (three A.Policy.meaning B.Policy.meaning C.Policy.meaning) A.Nesting.nest B.Nesting.nest) (record { sets = sets; lines = kins_of lines.now }) ++ drop (level_words sets (kins_of lines.now)) words.old }
 {
     let direct = 2 * sets;
     words[..direct].fill(0);
@@ -126,7 +126,7 @@ fn start_level<A: Nesting, B: Nesting, C: Policy>(
 // Starts the levels of one block size.
 fn start_levels<A: Nesting, B: Nesting, C: Policy>(
     policies: &Policies<A, B, C>,
-    lines: &[Entry],
+    lines: &[OpenLine],
     words: &mut [u32],
 )
     requires { LevelsFit lines.now (length words.old) }
@@ -146,7 +146,7 @@ fn start_levels<A: Nesting, B: Nesting, C: Policy>(
 // Starts all levels of a table: nothing is resident.
 pub(crate) fn start_families<A: Nesting, B: Nesting, C: Policy>(
     policies: &Policies<A, B, C>,
-    lines: &[Entry],
+    lines: &[OpenLine],
     words: &mut [u32],
 )
     requires { FamiliesFit lines.now (length words.old) }

@@ -8,9 +8,9 @@ ghost use Rattle.bench.specs.Spans.{FamiliesFit, LevelsFit};
 ghost use Rattle.bench.specs.Suite.{suite};
 ghost use Rattle.bench.specs.Sweep.{same_block};
 
-use crate::entry::Entry;
-use crate::level::visit_level;
 use crate::miss::Misses;
+use crate::open_level::access_level;
+use crate::open_line::OpenLine;
 use crate::rows::Place;
 use geometry::geometry::Geometry;
 use policy::three::Policies;
@@ -42,7 +42,7 @@ fn place_of(geometry: &Geometry, address: u32, kind: usize) -> Place
 // Visits the levels of one block size until a direct-mapped cache hits; answers the comparisons that are reported.
 fn sweep_levels<A: Nesting, B: Nesting, C: Policy>(
     policies: &Policies<A, B, C>,
-    lines: &[Entry],
+    lines: &[OpenLine],
     misses: &mut [Misses],
     words: &mut [u32],
     address: u32,
@@ -58,7 +58,7 @@ fn sweep_levels<A: Nesting, B: Nesting, C: Policy>(
     let count = first.level.lines;
     let size = first.level.words;
     let at = place_of(&first.geometry, address, kind);
-    let (hit, here) = visit_level(
+    let (hit, here) = access_level(
         policies,
         &lines[..count],
         &mut misses[..count],
@@ -93,7 +93,7 @@ fn repeats(geometry: &Geometry, reach: &Reach) -> bool
 // Answers the comparisons that are reported.
 pub(crate) fn sweep_families<A: Nesting, B: Nesting, C: Policy>(
     policies: &Policies<A, B, C>,
-    lines: &[Entry],
+    lines: &[OpenLine],
     misses: &mut [Misses],
     words: &mut [u32],
     reach: &Reach,

@@ -4,12 +4,12 @@ ghost use Rattle.bench.specs.Joins.{linked};
 ghost use Rattle.bench.specs.Spans.{configs};
 ghost use Rattle.bench.specs.Table.{families, families_words};
 
-use crate::entry::Entry;
+use crate::open_line::OpenLine;
 
 // The first `count` of the lines, which tell where their levels end, and the words that they need in a workspace.
 #[derive(Clone, Copy)]
 pub(crate) struct Table {
-    pub(crate) lines: [Entry; 64],
+    pub(crate) lines: [OpenLine; 64],
     pub(crate) count: usize,
     pub(crate) need: usize,
     ghost room: { length lines ≡ 64 },

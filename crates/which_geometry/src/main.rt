@@ -1,8 +1,6 @@
-// Which cache did the console have? Runs six candidates over a small trace, each alone and then all in one pass, and
-// compares their misses with a measurement.
+// Which cache did the console have? Runs six candidates over a small trace and compares their misses with a measurement.
 #![tactic(auto)]
 
-use bench::bench::Bench;
 use geometry::line::Line;
 use policy::fifo::Fifo;
 use policy::lru::Lru;
@@ -17,12 +15,6 @@ const MEASURED: u64 = 4;
 
 // Enough words for the largest candidate: 4 sets of 1 + 4 words.
 const WORDS: usize = 20;
-
-// All candidates in one workspace: 4 sets of 2 words for their level, and of 2 + ways words for each line.
-const TABLE_WORDS: usize = 120;
-
-// The direct-mapped cache of the level compares once for each read but the first.
-const DIRECT: u64 = 5;
 
 const CANDIDATES: [Line; 6] = [
     Line {
@@ -102,62 +94,19 @@ fn describe(
     Ok(())
 }
 
-// Runs a candidate alone: whether it fits, and its comparisons.
-fn try_candidate(rt: &HostRuntime, line: &Line, trace: &[Access]) -> anyhow::Result<(bool, u64)> {
+fn try_candidate(rt: &HostRuntime, line: &Line, trace: &[Access]) -> anyhow::Result<bool> {
     let mut memory = [0; WORDS];
     match run(&STANDARD, line, trace, &mut memory) {
         Ok((counts, comparisons)) => {
             describe(rt, line, &counts, comparisons)?;
-            Ok((total(counts.misses) == MEASURED, comparisons))
+            Ok(total(counts.misses) == MEASURED)
         }
         Err(refusal) => {
             let number = refusal.number();
             println!(rt; "A candidate was refused with number {number}.")?;
-            Ok((false, 0))
+            Ok(false)
         }
     }
-}
-
-// Opens the table of all candidates, and makes the accesses.
-fn sweep(bench: &mut Bench<Fifo, Lru, Plru>, trace: &[Access], workspace: &mut [u32]) {
-    let _ = bench.open(&CANDIDATES, workspace);
-    for access in trace {
-        let _ = bench.access(access, workspace);
-    }
-}
-
-// All candidates in one pass: their counts, and the comparisons of the pass.
-fn one_pass(trace: &[Access]) -> ([Counts; 6], u64) {
-    let mut workspace = [0; TABLE_WORDS];
-    let mut bench = Bench::new(STANDARD);
-    sweep(&mut bench, trace, &mut workspace);
-    let none = Counts {
-        misses: [0; 3],
-        hits: [0; 3],
-    };
-    let mut counts = [none; 6];
-    let _ = bench.counts(&mut counts);
-    (counts, bench.totals().comparisons)
-}
-
-// What one pass counts and saves, where the candidates alone, with the direct-mapped cache of their level, made so many
-// comparisons.
-fn show_pass(rt: &HostRuntime, trace: &[Access], alone: u64) -> anyhow::Result<()> {
-    let (counts, comparisons) = one_pass(trace);
-    println!(rt; "In one pass over the reads:")?;
-    for k in 0..6 {
-        let line = CANDIDATES[k];
-        let name = policy_name(line.letter);
-        let ways = line.ways;
-        let hits = total(counts[k].hits);
-        let misses = total(counts[k].misses);
-        println!(rt; "  {name} with {ways} ways: {hits} hits, {misses} misses")?;
-    }
-    let saved = alone.saturating_sub(comparisons);
-    println!(rt;
-        "It made {comparisons} comparisons, and the separate caches make {alone}: {saved} are saved."
-    )?;
-    Ok(())
 }
 
 fn search(rt: &HostRuntime) -> anyhow::Result<()> {
@@ -171,16 +120,13 @@ fn search(rt: &HostRuntime) -> anyhow::Result<()> {
         "\nIts cache missed {MEASURED} of them. Each candidate is run alone over the same reads.\n"
     )?;
     let mut fitting = 0u32;
-    let mut alone = DIRECT;
     for line in &CANDIDATES {
-        let (fits, comparisons) = try_candidate(rt, line, &trace)?;
-        if fits {
+        if try_candidate(rt, line, &trace)? {
             fitting = fitting.saturating_add(1);
         }
-        alone = alone.saturating_add(comparisons);
     }
-    println!(rt; "\n{fitting} of 6 candidates fit the measurement.\n")?;
-    show_pass(rt, &trace, alone)
+    println!(rt; "\n{fitting} of 6 candidates fit the measurement.")?;
+    Ok(())
 }
 
 fn main(rt: HostRuntime) -> anyhow::Result<()> {

@@ -1,7 +1,7 @@
 use Rattle.std.proofs.Common.{◌<◌, ◌≤◌, length, take, drop, sym, ◌∙◌, subst, subst₂, arith, rules}
 use Rattle.std.proofs.lemmas.List.{length-drop, length-take-le, take_rest}
 use Rattle.policy.specs.Three.{three}
-use Rattle.bench.specs.Entries.{kin_of}
+use Rattle.bench.specs.OpenLines.{kins_of}
 use Rattle.bench.specs.Level.{level_words}
 use Rattle.bench.specs.Started.{LevelsStarted}
 use Rattle.bench.specs.Suite.{suite}
@@ -27,7 +27,7 @@ start_level-requires g t c =
     let es = c.args.lines.now in
     let ws = c.args.words.now in
     let x = c.index-lines-0.result in
-    subst (λ n. level_words n (kin_of (take x.level.lines es)) ≤ length (take x.level.words ws)) (sym c.sets-sets.ensures) (visit_room es x c.index-lines-0.is ws (search rules) c.requires)
+    subst (λ n. level_words n (kins_of (take x.level.lines es)) ≤ length (take x.level.words ws)) (sym c.sets-sets.ensures) (visit_room es x c.index-lines-0.is ws (search rules) c.requires)
 
 pub offset_bounds-lines-count : goal.offset_bounds-lines-count
 offset_bounds-lines-count g t c =

@@ -1,7 +1,7 @@
 use Rattle.std.proofs.Common.{◌≡◌, ◌+◌, ◌-◌, ◌*◌, ◌<◌, ◌≤◌, ◌&&◌, ◌++◌, length, take, drop, ap, ◌∙◌, ap₂, arith, rules}
 use Rattle.std.proofs.lemmas.List.{length-drop, take_rest}
 use Rattle.policy.specs.Three.{three}
-use Rattle.bench.specs.Entries.{kin_of}
+use Rattle.bench.specs.OpenLines.{kins_of}
 use Rattle.bench.specs.Start.{any_of, started_lines}
 use Rattle.bench.specs.Suite.{nesting, suite}
 use Rattle.bench.specs.Words.{lines_words, wide}
@@ -18,7 +18,7 @@ start_lines-requires g t c κs within =
     let es = c.args.lines.now in
     let some : 0 < length es = search rules in
     let lines_are : take (length es - 1) (drop 1 es) ≡ drop 1 es = take_rest es 1 in
-    let room : lines_words c.args.sets (wide (kin_of (drop 1 es))) ≤ length c.args.words.now = omega (arith, ap (lines_words c.args.sets) (wide_past es 0 c.index-lines-0.result some c.index-lines-0.is c.if-ways-le1.true)) in
+    let room : lines_words c.args.sets (wide (kins_of (drop 1 es))) ≤ length c.args.words.now = omega (arith, ap (lines_words c.args.sets) (wide_past es 0 c.index-lines-0.result some c.index-lines-0.is c.if-ways-le1.true)) in
     let falls : length (drop 1 es) < length es = omega (arith, length-drop 1 es) in
     (rw lines_are (search rules), (search rules, (search rules, (search rules, rw lines_are room))))
 
@@ -38,7 +38,7 @@ start_lines-requires-2 g t c κs within =
     let le : n ≤ length ws = omega arith in
     let lines_are : take (length es - 1) (drop 1 es) ≡ drop 1 es = take_rest es 1 in
     let words_are = others_are n ws c.start_line.new.words le c.start_line.auto.words in
-    let room : lines_words c.args.sets (wide (kin_of (drop 1 es))) ≤ length (drop n ws) = omega (arith, length-drop n ws) in
+    let room : lines_words c.args.sets (wide (kins_of (drop 1 es))) ≤ length (drop n ws) = omega (arith, length-drop n ws) in
     let falls : length (drop 1 es) < length es = omega (arith, length-drop 1 es) in
     (rw lines_are (search rules), (search rules, (search rules, (search rules, rw (lines_are, words_are) room))))
 
@@ -55,8 +55,8 @@ returns g t c =
     let le : n ≤ length ws = omega arith in
     let new = c.start_line.new.words in
     let rest = c.start_lines-2.new.words in
-    let later : rest ≡ started_lines s c.args.sets (wide (kin_of (drop 1 es))) ++ drop (lines_words c.args.sets (wide (kin_of (drop 1 es)))) (drop n ws) =
-    c.start_lines-2.ensures ∙ ap₂ (λ zs vs. started_lines s c.args.sets (wide (kin_of zs)) ++ drop (lines_words c.args.sets (wide (kin_of zs))) vs) (take_rest es 1) (others_are n ws new le c.start_line.auto.words) in
-    let follows = c.follows-follower.ensures ∙ ap (λ zs. nesting k && any_of k (wide (kin_of zs))) (take_rest es 1) in
+    let later : rest ≡ started_lines s c.args.sets (wide (kins_of (drop 1 es))) ++ drop (lines_words c.args.sets (wide (kins_of (drop 1 es)))) (drop n ws) =
+    c.start_lines-2.ensures ∙ ap₂ (λ zs vs. started_lines s c.args.sets (wide (kins_of zs)) ++ drop (lines_words c.args.sets (wide (kins_of zs))) vs) (take_rest es 1) (others_are n ws new le c.start_line.auto.words) in
+    let follows = c.follows-follower.ensures ∙ ap (λ zs. nesting k && any_of k (wide (kins_of zs))) (take_rest es 1) in
     others_put n ws new le c.start_line.auto.words rest
     ∙ lines_more s c.args.sets ws es x some c.index-lines-0.is c.follows-follower.result new rest c.if-ways-le1.false follows c.start_line.ensures later

@@ -1,7 +1,7 @@
 use Rattle.std.proofs.Common.{◌≡◌, ◌+◌, drop, sym, ◌∙◌, rules}
 use denote.Enum.Bare.{same_true, same_false}
 use Rattle.policy.specs.contracts.three.Member.{the_type}
-use Rattle.bench.specs.Entries.{kin_of}
+use Rattle.bench.specs.OpenLines.{kins_of}
 use Rattle.bench.specs.Start.{any_of}
 use Rattle.bench.specs.Words.{wide}
 use Rattle.bench.proofs.AnyOf.{any_here, any_none, any_other, any_single}
@@ -17,7 +17,7 @@ loop-line-preserved c =
     let es = c.args.lines.now in
     let i = c.loop-line.line-index in
     let x = c.line-item.result in
-    let later : any_of k (wide (kin_of (drop i es))) ≡ any_of k (wide (kin_of (drop (i + 1) es))) =
+    let later : any_of k (wide (kins_of (drop i es))) ≡ any_of k (wide (kins_of (drop (i + 1) es))) =
     elim c.else-line-gt1.branch [
       | else-line-gt1-via-then-line-gt1+else-eq w ↦ any_other es i x c.loop-line-test.true c.line-item.is k w.if-line-gt1.true (same_false the_type _ _ (sym w.if-eq.ensures))
       | else-line-gt1-via-else-line-gt1 w ↦ any_single es i x c.loop-line-test.true c.line-item.is k w.if-line-gt1.false

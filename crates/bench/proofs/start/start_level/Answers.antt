@@ -1,6 +1,6 @@
 use Rattle.std.proofs.Common.{◌≡◌, ◌*◌, ◌≤◌, ◌++◌, length, drop, ap, ◌∙◌, rules}
 use Rattle.policy.specs.Three.{three}
-use Rattle.bench.specs.Entries.{kin_of}
+use Rattle.bench.specs.OpenLines.{kins_of}
 use Rattle.bench.specs.Start.{started_lines}
 use Rattle.bench.specs.Suite.{suite}
 use Rattle.bench.specs.Words.{lines_words, wide}
@@ -14,7 +14,7 @@ returns g c =
     let ws = c.args.words.now in
     let n = 2 * c.args.sets in
     let le : n ≤ length ws = search rules in
-    let ks = wide (kin_of c.args.lines.now) in
+    let ks = wide (kins_of c.args.lines.now) in
     let zeros = c.fill.new.self in
     let rest = c.start_lines.new.words in
     let later : rest ≡ started_lines s c.args.sets ks ++ drop (lines_words c.args.sets ks) (drop n ws) =

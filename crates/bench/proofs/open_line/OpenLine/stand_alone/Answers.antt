@@ -1,6 +1,6 @@
 use Rattle.std.proofs.Common.{arith, rules}
 use Rattle.bench.proofs.Sizes.{sets_most}
-use Rattle.bench.proofs.entry.Entry.stand_alone.Goals as goal
+use Rattle.bench.proofs.open_line.OpenLine.stand_alone.Goals as goal
 
 pub invariant_of-span : goal.invariant_of-span
 invariant_of-span c =

@@ -1,0 +1,11 @@
+-- The lines of an open table, as a level sees them.
+use Rattle.std.specs.Prelude.{List, map}
+use Rattle.bench.specs.Words.{Kin}
+use Rattle.bench.specs.declared.open_line.OpenLine.{OpenLine}
+
+-- the policies and the ways of lines
+abbrev pub line_kin : OpenLine → Kin
+line_kin x = record { member = x.geometry.member; ways = x.geometry.ways }
+
+abbrev pub kins_of : List OpenLine → List Kin
+kins_of es = map line_kin es
