@@ -3,11 +3,11 @@ pub mod Steps
 pub mod SweepSet
 pub mod Restrict
 pub mod RowWords
-pub mod GroupRows
 pub mod SetRows
+pub mod GroupRows
 pub mod Hits
+pub mod VisitDone
 pub mod LevelRows
-pub mod OpenLevelRows
 pub mod AllLawful
 pub mod InWindows
 pub mod LineKept

@@ -4,9 +4,7 @@ use Rattle.bench.specs.Rows.{Stepped}
 use Rattle.bench.specs.Mixed.{Leads, Owned, SweptAll, sweep_all}
 use Rattle.bench.specs.Words.{Kin, rows_at, spread, wide, with_rows}
 use Rattle.bench.specs.Entries.{all_counted, capped, kin_of, misses_of}
-use Rattle.bench.specs.OpenLines.{kins_of}
 use Rattle.bench.specs.declared.entry.Entry.{Entry}
-use Rattle.bench.specs.declared.open_line.OpenLine.{OpenLine}
 
 -- the sweep of the rows of set i, one a line
 abbrev pub sweep_at : (Owned → ℕ → Leads → Stepped) → ℕ → ℕ → ℕ → List Kin → List ℕ → SweptAll
@@ -20,10 +18,9 @@ pub record RowsSwept (f : Owned → ℕ → Leads → Stepped) (s i t kind : ℕ
   pub compared : comparisons ≡ capped (sweep_at f s i t (wide (kin_of lines)) words).comparisons
   pub told : leads ≡ (sweep_at f s i t (wide (kin_of lines)) words).leads
 
--- the same of the lines of an open table, whose misses stand beside them:
--- misses and words before and after it, the comparisons, and what narrower rows would be told
-pub record SetSwept (f : Owned → ℕ → Leads → Stepped) (s i t kind : ℕ) (lines : List OpenLine) (ms : List (List ℕ)) (words : List ℕ) (ms' : List (List ℕ)) (words' : List ℕ) (comparisons : ℕ) (leads : Leads) : Type 0 where
-  pub rows : words' ≡ with_rows s i (wide (kins_of lines)) (sweep_at f s i t (wide (kins_of lines)) words).rows words
-  pub misses : ms' ≡ all_counted kind (spread (kins_of lines) (sweep_at f s i t (wide (kins_of lines)) words).hits) ms
-  pub compared : comparisons ≡ capped (sweep_at f s i t (wide (kins_of lines)) words).comparisons
-  pub told : leads ≡ (sweep_at f s i t (wide (kins_of lines)) words).leads
+-- the same of the lines of an open table, of which ks are the policies and ways, and whose misses stand apart
+pub record SetSwept (f : Owned → ℕ → Leads → Stepped) (s i t kind : ℕ) (ks : List Kin) (ms : List (List ℕ)) (words : List ℕ) (ms' : List (List ℕ)) (words' : List ℕ) (comparisons : ℕ) (leads : Leads) : Type 0 where
+  pub rows : words' ≡ with_rows s i (wide ks) (sweep_at f s i t (wide ks) words).rows words
+  pub misses : ms' ≡ all_counted kind (spread ks (sweep_at f s i t (wide ks) words).hits) ms
+  pub compared : comparisons ≡ capped (sweep_at f s i t (wide ks) words).comparisons
+  pub told : leads ≡ (sweep_at f s i t (wide ks) words).leads

@@ -26,7 +26,7 @@ pub(crate) fn sweep_set<A: Nesting, B: Nesting, C: Policy>(
     leads: &mut Leads,
 ) -> u64
     requires { (length misses.old ≡ length lines.now) × ((lines_words at.sets (wide (kins_of lines.now)) ≤ length words.old) × ((at.set < at.sets) × ((at.kind < 3) × (leads_seen leads.old ≡ no_leads)))) }
-    ensures { SetSwept (own_step (suite (three A.Policy.meaning B.Policy.meaning C.Policy.meaning) A.Nesting.nest B.Nesting.nest)) at.sets at.set at.tag at.kind lines.now misses.old words.old misses.new words.new result (leads_seen leads.new) }
+    ensures { SetSwept (own_step (suite (three A.Policy.meaning B.Policy.meaning C.Policy.meaning) A.Nesting.nest B.Nesting.nest)) at.sets at.set at.tag at.kind (kins_of lines.now) misses.old words.old misses.new words.new result (leads_seen leads.new) }
 {
     if lines.is_empty() {
         return 0;

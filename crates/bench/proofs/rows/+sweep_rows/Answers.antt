@@ -1,4 +1,4 @@
-use Rattle.std.proofs.Common.{◌≡◌, ℕ, ◌+◌, ◌-◌, ◌*◌, ◌<◌, ◌≤◌, min, false, length, get_or, take, drop, sym, refl, ap, ◌∙◌, subst, arith, rules}
+use Rattle.std.proofs.Common.{◌≡◌, ◌+◌, ◌-◌, ◌*◌, ◌<◌, ◌≤◌, false, length, get_or, take, drop, refl, ap, ◌∙◌, subst, arith, rules}
 use Rattle.std.proofs.lemmas.List.{take_rest, length-drop, get_or_default}
 use Rattle.standalone.proofs.Laid.{row_within}
 use Rattle.bench.specs.Entries.{kin_of, counted}
@@ -8,7 +8,8 @@ use Rattle.bench.specs.Mixed.{own_step}
 use Rattle.bench.specs.Suite.{suite}
 use Rattle.bench.specs.Lead.{leads_seen}
 use Rattle.bench.specs.Words.{lines_words, line_words, wide}
-use Rattle.bench.proofs.GroupRows.{rows_none, rows_more, words_first, words_single, rows_single, lines_after, first_after, row_ends, row_part, row_put, rows_as}
+use Rattle.bench.proofs.GroupRows.{rows_none, rows_more, words_first, words_single, rows_single, lines_after, first_after, rows_as}
+use Rattle.bench.proofs.SetRows.{row_part, row_put}
 use Rattle.bench.proofs.rows.+sweep_rows.Goals as goal
 
 pub returns-then-is_empty : goal.returns-then-is_empty

@@ -5,25 +5,24 @@ use Rattle.std.proofs.lemmas.List.{append-nil, drop_all, drop-set-lt, length-dro
 use Rattle.std.proofs.lemmas.Bool.{cond-true, cond-false, cond_both}
 use Rattle.bench.specs.Direct.{direct_after, direct_compared, direct_hit, filled}
 use Rattle.bench.specs.Entries.{all_counted, capped}
-use Rattle.bench.specs.OpenLines.{kins_of}
 use Rattle.bench.specs.Group.{SetSwept}
 use Rattle.bench.specs.Level.{Done, all_hit, hit_level, miss_level, visit}
 use Rattle.bench.specs.Mixed.{Leads, Owned}
 use Rattle.bench.specs.Rows.{Stepped}
-use Rattle.bench.specs.declared.open_line.OpenLine.{OpenLine}
+use Rattle.bench.specs.Words.{Kin}
 use Rattle.bench.proofs.Hits.{all_hit_true, hits_kept}
 
 -- the direct-mapped cache makes at most one comparison
 one_compared : (ws : List ℕ) (i : ℕ) → direct_compared ws i ≤ 1
 one_compared ws i = cond_both (filled ws i) 1 0 (λ n. n ≤ 1) (λ _. omega arith) (λ _. omega arith)
 
-module _ (f : Owned → ℕ → Leads → Stepped) (s i t kind : ℕ) (es : List OpenLine) (ms : List (List ℕ)) (ws : List ℕ) where
-  pub level_hit : {ws' : List ℕ} {c : ℕ} → direct_hit ws i t ≡ true → ws' ≡ direct_after ws i t → c ≡ direct_compared ws i → Done (visit f s i t (kins_of es) ws) kind ms ms ws' c
+module _ (f : Owned → ℕ → Leads → Stepped) (s i t kind : ℕ) (ks : List Kin) (ms : List (List ℕ)) (ws : List ℕ) where
+  pub level_hit : {ws' : List ℕ} {c : ℕ} → direct_hit ws i t ≡ true → ws' ≡ direct_after ws i t → c ≡ direct_compared ws i → Done (visit f s i t ks ws) kind ms ms ws' c
   level_hit {ws'} {c} h ew ec =
-      let goes : visit f s i t (kins_of es) ws ≡ hit_level i (kins_of es) ws = cond-true (direct_hit ws i t) (hit_level i (kins_of es) ws) (miss_level f s i t (kins_of es) ws) h in
+      let goes : visit f s i t ks ws ≡ hit_level i ks ws = cond-true (direct_hit ws i t) (hit_level i ks ws) (miss_level f s i t ks ws) h in
       record {
         words = ew ∙ cond-true (direct_hit ws i t) ws (set (set ws (2 * i) 1) (2 * i + 1) t) h ∙ sym (ap (λ v. v.words) goes);
-        misses = sym (ap (λ v. all_counted kind v.hits ms) goes ∙ hits_kept kind (all_hit (kins_of es)) ms (all_hit_true (kins_of es)));
+        misses = sym (ap (λ v. all_counted kind v.hits ms) goes ∙ hits_kept kind (all_hit ks) ms (all_hit_true ks));
         compared = omega (arith, ec, one_compared ws i) ∙ sym (ap (λ v. capped v.comparisons) goes);
       }
 
@@ -32,12 +31,12 @@ module _ (f : Owned → ℕ → Leads → Stepped) (s i t kind : ℕ) (es : List
   rows_kept h low = ap (drop (2 * s)) (cond-false (direct_hit ws i t) ws (set (set ws (2 * i) 1) (2 * i + 1) t) h) ∙ drop-set-lt (2 * s) (set ws (2 * i) 1) (2 * i + 1) t (omega arith) ∙ drop-set-lt (2 * s) ws (2 * i) 1 (omega arith)
 
   pub level_miss : {ms' : List (List ℕ)} {ws₁ rest : List ℕ} {n d c : ℕ} {lead : Leads} → direct_hit ws i t ≡ false → i < s → ws₁ ≡ direct_after ws i t → d ≡ direct_compared ws i
-      → SetSwept f s i t kind es ms (take (length ws₁ - 2 * s) (drop (2 * s) ws₁)) ms' rest n lead → c ≡ min (n + d) 18446744073709551615
-      → Done (visit f s i t (kins_of es) ws) kind ms ms' (put_mid (2 * s) (length ws₁ - 2 * s) ws₁ rest) c
+      → SetSwept f s i t kind ks ms (take (length ws₁ - 2 * s) (drop (2 * s) ws₁)) ms' rest n lead → c ≡ min (n + d) 18446744073709551615
+      → Done (visit f s i t ks ws) kind ms ms' (put_mid (2 * s) (length ws₁ - 2 * s) ws₁ rest) c
   level_miss {ms'} {ws₁} {rest} {n} {d} {c} {lead} h low ew ed R ec =
-      let goes : visit f s i t (kins_of es) ws ≡ miss_level f s i t (kins_of es) ws = cond-false (direct_hit ws i t) (hit_level i (kins_of es) ws) (miss_level f s i t (kins_of es) ws) h in
+      let goes : visit f s i t ks ws ≡ miss_level f s i t ks ws = cond-false (direct_hit ws i t) (hit_level i ks ws) (miss_level f s i t ks ws) h in
       let same : take (length ws₁ - 2 * s) (drop (2 * s) ws₁) ≡ drop (2 * s) ws = take_rest ws₁ (2 * s) ∙ ap (drop (2 * s)) ew ∙ rows_kept h low in
-      let R₁ : SetSwept f s i t kind es ms (drop (2 * s) ws) ms' rest n lead = subst (λ xs. SetSwept f s i t kind es ms xs ms' rest n lead) same R in
+      let R₁ : SetSwept f s i t kind ks ms (drop (2 * s) ws) ms' rest n lead = subst (λ xs. SetSwept f s i t kind ks ms xs ms' rest n lead) same R in
       let put : put_mid (2 * s) (length ws₁ - 2 * s) ws₁ rest ≡ take (2 * s) ws₁ ++ rest =
       ap (λ zs. take (2 * s) ws₁ ++ (rest ++ zs)) (drop_all (length ws₁ - 2 * s) (drop (2 * s) ws₁) (omega (arith, length-drop (2 * s) ws₁))) ∙ ap (λ zs. take (2 * s) ws₁ ++ zs) (append-nil rest) in
       record {
