@@ -2,14 +2,19 @@
 use Rattle.std.proofs.Common.{◌≡◌, ℕ, ◌+◌, ◌-◌, ◌*◌, ◌<◌, min, true, false, List, length, take, drop, refl}
 use borrow.Rule.Slice.PartMut.{put_mid}
 use Rattle.bench.specs.Direct.{direct_after, direct_compared, direct_hit}
-use Rattle.bench.specs.Entries.{kin_of, misses_of}
+use Rattle.bench.specs.Entries.{all_counted, kin_of, misses_of}
 use Rattle.bench.specs.Group.{RowsSwept}
-use Rattle.bench.specs.Level.{Done, LevelVisited, visit}
+use Rattle.bench.specs.Level.{Done, LevelVisited, all_hit, visit}
 use Rattle.bench.specs.Mixed.{Leads, Owned}
 use Rattle.bench.specs.Rows.{Stepped}
 use Rattle.bench.specs.declared.entry.Entry.{Entry}
 use Rattle.bench.proofs.GroupRows.{misses_apart}
+use Rattle.bench.proofs.Hits.{all_hit_true, hits_kept}
 use Rattle.bench.proofs.VisitDone as apart
+
+-- a line that hits keeps its misses
+all_kept : (kind : ℕ) (es : List Entry) → all_counted kind (all_hit (kin_of es)) (misses_of es) ≡ misses_of es
+all_kept kind es = hits_kept kind (all_hit (kin_of es)) (misses_of es) (all_hit_true (kin_of es))
 
 module _ (f : Owned → ℕ → Leads → Stepped) (s i t kind : ℕ) (es : List Entry) (ws : List ℕ) where
   -- a visit seen with the misses apart from their lines, and back

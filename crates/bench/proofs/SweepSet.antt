@@ -233,6 +233,9 @@ module _ (m : Meaning) (L : Laws m) (e : Nest) (V : Nests m e) (t : ℕ) (small 
 
     -- a follower's leader, and what the sweep of the wider rows hands down
     module _ (f : leads x ≡ false) where
+      of_leader : Slot
+      of_leader = (b.follows f).of
+
       down : Handed (sweep (step m e) xs t).slots (sweep (step m e) xs t).lead x.ways q (b.follows f).of
       down = handed xs qs bs x.ways q (b.follows f).of b.takes b.made b.rising (b.follows f).nearest (b.follows f).first
 

@@ -3,6 +3,7 @@ use Rattle.std.proofs.Common.{◌≡◌, ℕ, zero, suc, ◌+◌, ◌-◌, ◌*�
 use lib.Bits.{bit_and}
 use Rattle.std.proofs.lemmas.Nat.{and_mask, one_shl}
 use Rattle.std.proofs.lemmas.Bool.{eq-eqb, ne_eqb, or_left, or_right, or_from, cases_eq}
+use Rattle.geometry.specs.Address.{block_of, set_of}
 use Rattle.geometry.specs.Line.{power_to}
 
 pub power_found : (most k n : ℕ) → k ≤ most → n ≡ 2 ^ k → power_to most n ≡ true
@@ -24,3 +25,7 @@ power_none (suc m) n no_power =
 -- a mask of k bits
 pub low_bits : (n k : ℕ) → k < 32 → bit_and n ((1 * 2 ^ k) % 2 ^ 32 - 1) ≡ n % 2 ^ k
 low_bits n k h = ap (λ p. bit_and n (p - 1)) (one_shl k 32 h) ∙ and_mask n k
+
+-- the low bits of a block are its set
+pub set_low : (block address b s : ℕ) → s < 32 → block ≡ block_of address (2 ^ b) → bit_and block (1 * 2 ^ s % 4294967296 - 1) ≡ set_of address (2 ^ b) (2 ^ s)
+set_low block address b s low is = low_bits block s low ∙ ap (λ n. n % 2 ^ s) is

@@ -3,4 +3,4 @@ use Rattle.jobtext.proofs.Figures.{figures}
 use Rattle.jobtext.proofs.write.write_number.Goals as goal
 
 pub push_number-requires : goal.push_number-requires
-push_number-requires c = omega (arith, figures c.args.n (omega arith))
+push_number-requires c = grind (arith, figures)

@@ -1,4 +1,4 @@
-use Rattle.std.proofs.Common.{◌^◌, arith}
+use Rattle.std.proofs.Common.{◌^◌, arith, rules}
 use Rattle.policy.specs.Three.{three, policy_of}
 use Rattle.policy.proofs.Lawful.{lawful_of}
 use Rattle.standalone.proofs.Runs.{need_is, takes_is, ran_by_geometry, rest_kept, started_again}
@@ -12,11 +12,11 @@ touch_all-requires g c =
     let ready = c.in_ok-geometry.ensures in
     let takes = takes_is p c.args.line.now geometry ready.geometry in
     record {
-      room = omega (arith, c.start_rows.auto.memory, ready.room, need_is p c.args.line.now geometry ready.geometry);
+      room = omega (arith, ready.room, need_is p c.args.line.now geometry ready.geometry);
       takes = takes;
       allowed = ready.allowed;
       few = ready.few;
-      started = started_again (policy_of p geometry.member) laws (2 ^ geometry.set_bits) geometry.ways takes c.args.memory.now c.start_rows.new.memory c.start_rows.ensures;
+      started = started_again (policy_of p geometry.member) laws (2 ^ geometry.set_bits) geometry.ways takes c.args.memory.now _ (search rules);
     }
 
 pub returns : goal.returns
@@ -29,6 +29,6 @@ returns g c =
     record {
       passes = ready.asked;
       ran = ran_by_geometry p c.args.line.now geometry ready.geometry c.args.accesses.now c.args.memory.now _ _ _ _
-          (rest_kept (policy_of p geometry.member) laws (2 ^ geometry.set_bits) geometry.ways takes c.args.memory.now c.start_rows.new.memory c.start_rows.ensures)
+          (rest_kept (policy_of p geometry.member) laws (2 ^ geometry.set_bits) geometry.ways takes c.args.memory.now _ (search rules))
           c.touch_all.ensures;
     }

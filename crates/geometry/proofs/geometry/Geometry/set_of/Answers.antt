@@ -1,6 +1,6 @@
-use Rattle.std.proofs.Common.{◌%◌, ◌^◌, ap, ◌∙◌, arith}
-use Rattle.geometry.proofs.Powers.{low_bits}
+use Rattle.std.proofs.Common.{rules, arith}
+use Rattle.geometry.proofs.Powers.{set_low}
 use Rattle.geometry.proofs.geometry.Geometry.set_of.Goals as goal
 
 pub returns : goal.returns
-returns c = low_bits c.block_of.result c.args.self.now.set_bits (omega arith) ∙ ap (λ n. n % 2 ^ c.args.self.now.set_bits) c.block_of.ensures
+returns c = set_low _ c.args.address c.args.self.now.block_bits c.args.self.now.set_bits (omega arith) (search rules)
