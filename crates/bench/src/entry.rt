@@ -1,4 +1,4 @@
-// A line of an open table, with its misses.
+// A line of a level that keeps its own misses.
 ghost use Rattle.std.specs.Prelude.{◌≤◌};
 
 use policy::three::Member;

@@ -61,7 +61,7 @@ fn check_line<A: Nesting, B: Nesting, C: Policy>(
 }
 
 // A line that does not know yet where its level ends.
-fn new_entry(geometry: Geometry) -> OpenLine
+fn new_line(geometry: Geometry) -> OpenLine
     ensures { result.geometry ≡ geometry }
 {
     let none = Span { lines: 0, words: 0 };
@@ -86,7 +86,7 @@ fn read_lines<A: Nesting, B: Nesting, C: Policy>(
     for k in 0..lines.len() {
         let line = lines[k];
         match check_line(policies, &last, &line) {
-            Ok(geometry) => entries[k] = new_entry(geometry),
+            Ok(geometry) => entries[k] = new_line(geometry),
             Err(refusal) => {
                 return Err(Refused {
                     refusal,
@@ -111,7 +111,7 @@ impl Table {
             ways: 0,
         };
         Table {
-            lines: [new_entry(none); 64],
+            lines: [new_line(none); 64],
             count: 0,
             need: 0,
         }

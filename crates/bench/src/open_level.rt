@@ -1,4 +1,4 @@
-// One level in a sweep.
+// One level of an open table in a sweep.
 ghost use Rattle.std.specs.Prelude.{◌≡◌, ◌<◌, ◌≤◌, length};
 ghost use Rattle.policy.specs.Three.{three};
 ghost use Rattle.bench.specs.Direct.{direct_hit};

@@ -1,4 +1,4 @@
-// The rows of one set in the lines of one level.
+// The rows of one set in the lines of one level of an open table.
 ghost use Rattle.std.specs.Prelude.{◌≡◌, ◌<◌, ◌≤◌, length};
 ghost use Rattle.policy.specs.Three.{three};
 ghost use Rattle.bench.specs.OpenLines.{kins_of};

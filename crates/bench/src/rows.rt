@@ -1,4 +1,4 @@
-// The rows of one set in the lines of one level.
+// The rows of one set in the lines of one level, each of which keeps its own misses.
 ghost use Rattle.std.specs.Prelude.{◌≡◌, ◌<◌, ◌≤◌, length};
 ghost use Rattle.policy.specs.Three.{three};
 ghost use Rattle.bench.specs.Entries.{kin_of};

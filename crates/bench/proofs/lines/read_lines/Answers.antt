@@ -27,8 +27,8 @@ loop-k-preserved g c =
     let low = c.loop-k-test.true in
     let room : k < length es = omega (arith, c.requires.0, c.loop-k.auto.entries) in
     let checked = c.in-Ok.ensures in
-    let x = c.new_entry.result in
-    let of_line : GeometryOf p (get_or lines k d) x.geometry = subst (GeometryOf p (get_or lines k d)) (sym c.new_entry.ensures) checked.geometry in (
+    let x = c.new_line.result in
+    let of_line : GeometryOf p (get_or lines k d) x.geometry = subst (GeometryOf p (get_or lines k d)) (sym c.new_line.ensures) checked.geometry in (
       sym (line_passes p c.loop-k.last lines k d low checked.passes) ∙ c.loop-k.invariant.0,
       configs_more p es lines k d x room low (same-config p (get_or lines k d) x of_line) c.loop-k.invariant.1,
     )
