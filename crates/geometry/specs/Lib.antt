@@ -1,3 +1,4 @@
 pub mod Refusal
 pub mod Address
 pub mod Line
+pub mod Kind

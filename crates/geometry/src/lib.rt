@@ -3,5 +3,6 @@
 
 pub mod address;
 pub mod geometry;
+pub mod kind;
 pub mod line;
 pub mod refusal;

@@ -9,13 +9,13 @@ use crate::refusal::Refusal;
 use policy::three::Policies;
 use policy::traits::{Nesting, Policy};
 
-// A line of a table: policy letter, number of sets, block size in bytes, number of ways.
+// A line of a table: block size in bytes, number of sets, policy letter, number of ways. Lines are ordered by these in turn.
 // The numbers may be any; `check` tells whether they are allowed.
-#[derive(Clone, Copy, PartialEq, Eq, Debug)]
+#[derive(Clone, Copy, PartialEq, Eq, PartialOrd, Ord, Debug)]
 pub struct Line {
-    pub letter: u8,
-    pub sets: u64,
     pub block: u64,
+    pub sets: u64,
+    pub letter: u8,
     pub ways: u64,
 }
 
@@ -24,12 +24,12 @@ fn exponent_of(n: u64, most: u32) -> Option<u32>
     requires { most ≤ 14 }
     ensures { MatchOption result (power_to most n ≡ false) (λ k. (k ≤ most) × (n ≡ 2 ^ k) × (power_to most n ≡ true)) }
 {
-    for k in 0..most + 1 {
-        if n == 1 << k {
-            return Some(k);
-        }
+    let k = n.checked_ilog2()?;
+    if k <= most && n == 1 << k {
+        Some(k)
+    } else {
+        None
     }
-    None
 }
 
 impl Line {
@@ -41,15 +41,9 @@ impl Line {
         ensures passes { MatchResult result (λ _. first_no (line_questions (three A.Policy.meaning B.Policy.meaning C.Policy.meaning) self.now) ≡ None) (λ e. first_no (line_questions (three A.Policy.meaning B.Policy.meaning C.Policy.meaning) self.now) ≡ Some (refusal_number e)) }
         ensures geometry { IfOk result (λ g. GeometryOf (three A.Policy.meaning B.Policy.meaning C.Policy.meaning) self.now g) }
     {
-        let Some(member) = policies.find(self.letter) else {
-            return Err(Refusal::Letter);
-        };
-        let Some(set_bits) = exponent_of(self.sets, 14) else {
-            return Err(Refusal::Sets);
-        };
-        let Some(block_bits) = exponent_of(self.block, 10) else {
-            return Err(Refusal::Block);
-        };
+        let member = policies.find(self.letter).ok_or(Refusal::Letter)?;
+        let set_bits = exponent_of(self.sets, 14).ok_or(Refusal::Sets)?;
+        let block_bits = exponent_of(self.block, 10).ok_or(Refusal::Block)?;
         if !policies.takes(member, self.ways) {
             return Err(Refusal::Ways);
         }

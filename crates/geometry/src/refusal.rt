@@ -5,43 +5,43 @@ ghost use Rattle.geometry.specs.Refusal.{refusal_number};
 #[derive(Clone, Copy, PartialEq, Eq, Debug)]
 pub enum Refusal {
     // no line feed among the first 80 bytes
-    LineFeed,
+    LineFeed = 1,
     // the first field is unknown, or the number of fields is wrong
-    Fields,
+    Fields = 2,
     // a field is not well formed
-    Malformed,
+    Malformed = 3,
     // the line does not belong in this part of the job
-    Part,
+    Part = 4,
     // the table has no line, or more than 64
-    TableSize,
+    TableSize = 5,
     // no policy has the letter
-    Letter,
+    Letter = 6,
     // the number of sets is not allowed
-    Sets,
+    Sets = 7,
     // the block size is not allowed
-    Block,
+    Block = 8,
     // the policy does not take the number of ways
-    Ways,
+    Ways = 9,
     // the table lines are not in order
-    Order,
+    Order = 10,
     // the memory is too short
-    Memory,
+    Memory = 11,
     // the kind of access is unknown
-    Kind,
+    Kind = 12,
     // the address has more than 32 bits
-    Address,
+    Address = 13,
     // there are more accesses than can be counted
-    Accesses,
+    Accesses = 14,
     // there is no window of the number
-    WindowNumber,
+    WindowNumber = 15,
     // the window is empty, or ends beyond 2^32
-    WindowBounds,
+    WindowBounds = 16,
     // there are more frames than can be counted
-    Frames,
+    Frames = 17,
     // the list has not a record for each line
-    Records,
+    Records = 18,
     // the buffer is too short
-    Buffer,
+    Buffer = 19,
 }
 
 impl Refusal {
@@ -49,26 +49,6 @@ impl Refusal {
     pub fn number(self) -> u8
         ensures { result ≡ refusal_number self }
     {
-        match self {
-            Refusal::LineFeed => 1,
-            Refusal::Fields => 2,
-            Refusal::Malformed => 3,
-            Refusal::Part => 4,
-            Refusal::TableSize => 5,
-            Refusal::Letter => 6,
-            Refusal::Sets => 7,
-            Refusal::Block => 8,
-            Refusal::Ways => 9,
-            Refusal::Order => 10,
-            Refusal::Memory => 11,
-            Refusal::Kind => 12,
-            Refusal::Address => 13,
-            Refusal::Accesses => 14,
-            Refusal::WindowNumber => 15,
-            Refusal::WindowBounds => 16,
-            Refusal::Frames => 17,
-            Refusal::Records => 18,
-            Refusal::Buffer => 19,
-        }
+        self as u8
     }
 }
