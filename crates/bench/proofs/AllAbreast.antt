@@ -5,7 +5,7 @@ use Rattle.policy.specs.Policy.{Meaning}
 use Rattle.policy.specs.Nesting.{Nest}
 use Rattle.policy.specs.declared.three.Member.{Member}
 use Rattle.policy.specs.declared.three.Member.TheVariants.{First, Second, Further}
-use Rattle.bench.specs.Suite.{Suite, Lawful, meaning, nest, nesting, same}
+use Rattle.policy.specs.Suite.{Suite, Lawful, meaning, nest, nesting, same}
 use Rattle.bench.specs.Rows.{Slot, Lead, Stepped, leads, step, step_alone, step_follower, sweep}
 use Rattle.bench.specs.Mixed.{Leads, Owned, lead_of, own_step, rows_of, sweep_all}
 use Rattle.bench.specs.Words.{words_of}

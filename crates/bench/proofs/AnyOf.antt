@@ -6,7 +6,7 @@ use Rattle.policy.specs.declared.three.Member.{Member}
 use Rattle.policy.specs.declared.three.Member.TheVariants.{First, Second, Further}
 use Rattle.bench.specs.OpenLines.{line_kin, kins_of}
 use Rattle.bench.specs.Start.{any_of}
-use Rattle.bench.specs.Suite.{same}
+use Rattle.policy.specs.Suite.{same}
 use Rattle.bench.specs.Words.{Kin, wide}
 use Rattle.bench.specs.declared.open_line.OpenLine.{OpenLine}
 use Rattle.bench.proofs.SetRows.{wide_more, wide_single}

@@ -2,7 +2,7 @@
 use Rattle.std.proofs.Common.{◌≡◌, ℕ, suc, ◌+◌, ◌<◌, min, Bool, true, false, leb, List, [], ◌∷◌, ◌++◌, map, length, get_or, take, drop, set, Option, sym, refl, ap, ◌∙◌, arith}
 use Rattle.std.proofs.lemmas.List.{append_assoc, drop_all, drop_more, length-map, length-take-le, map_push, map-set, set_at, take_all, take_more}
 use Rattle.std.proofs.lemmas.Bool.{leb-true, leb-false}
-use Rattle.bench.specs.Suite.{Suite}
+use Rattle.policy.specs.Suite.{Suite}
 use Rattle.bench.specs.Calls.{Do}
 use Rattle.bench.specs.Spoken.{answer_of, do_of, spoken}
 use Rattle.bench.specs.State.{Bench, bench_after, bench_answers, bench_refusal, bench_run}

@@ -1,6 +1,6 @@
 -- What a call leaves is what its definition says, so it keeps track of the reference model.
 use Rattle.std.proofs.Common.{◌≡◌, length, Some, None, Option, sym, ap, ◌∙◌, subst}
-use Rattle.bench.specs.Suite.{Suite, Lawful}
+use Rattle.policy.specs.Suite.{Suite, Lawful}
 use Rattle.bench.specs.BenchTracks.{BenchTracks}
 use Rattle.bench.specs.Called.{Called}
 use Rattle.bench.specs.Calls.{Do, model_after, unless_refused}

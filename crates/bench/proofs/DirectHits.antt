@@ -4,7 +4,7 @@ use Rattle.std.specs.List.{AllByRecursion}
 use Rattle.std.proofs.ByRecursion.{All-weaker}
 use Rattle.std.proofs.lemmas.Bool.{cond-true}
 use Rattle.standalone.specs.declared.access.Access.{Access}
-use Rattle.bench.specs.Suite.{Suite, Lawful}
+use Rattle.policy.specs.Suite.{Suite, Lawful}
 use Rattle.bench.specs.Kept.{FamiliesKept, Holds, Includes, LevelKept, LevelsKept, LineKept}
 use Rattle.bench.specs.Model.{FamilyModel, LevelModel}
 use Rattle.bench.specs.Theorem.{AddsHit, DirectHits}

@@ -9,7 +9,7 @@ use Rattle.policy.specs.declared.three.Member.{Member}
 use Rattle.policy.specs.SearchLemmas.{all_replicate}
 use Rattle.standalone.specs.Rows.{laid, row_at}
 use Rattle.standalone.proofs.Laid.{length_laid, row_laid}
-use Rattle.bench.specs.Suite.{Suite, Lawful, meaning, nesting, same}
+use Rattle.policy.specs.Suite.{Suite, Lawful, meaning, nesting, same}
 use Rattle.bench.specs.Rows.{Slot, leads}
 use Rattle.bench.specs.Mixed.{Owned, rows_of}
 use Rattle.bench.specs.Words.{Kin, line_words, lines_words, one_way, rows_at, slot_of, wide}

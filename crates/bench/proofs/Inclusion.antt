@@ -9,7 +9,7 @@ use Rattle.std.proofs.lemmas.Bool.{cases_eq}
 use Rattle.geometry.specs.Address.{set_of, tag_of}
 use Rattle.standalone.specs.Cache.{touch_of}
 use Rattle.standalone.specs.declared.access.Access.{Access}
-use Rattle.bench.specs.Suite.{Suite, Lawful, meaning}
+use Rattle.policy.specs.Suite.{Suite, Lawful, meaning}
 use Rattle.bench.specs.Model.{FamilyModel, LevelModel, LineModel, touch_family, touch_level, touch_line}
 use Rattle.bench.specs.Kept.{Coarser, FamiliesKept, HeldBy, Holds, Includes, LevelKept, LevelsKept, LineKept}
 use Rattle.bench.proofs.LineKept.{direct_stays, hit_hits, hit_rows, line_touched, set_low}

@@ -5,7 +5,7 @@ use Rattle.bench.specs.Level.{level_words}
 use Rattle.bench.specs.Spans.{SpansFamilies, SpansLevels}
 use Rattle.bench.specs.Start.{started, started_level, started_levels}
 use Rattle.bench.specs.Started.{FamiliesStarted, LevelsStarted}
-use Rattle.bench.specs.Suite.{Suite}
+use Rattle.policy.specs.Suite.{Suite}
 use Rattle.bench.specs.Table.{Family, Level, families_words, levels_words}
 use Rattle.bench.specs.declared.open_line.OpenLine.{OpenLine}
 use Rattle.bench.proofs.FamiliesSwept.{FirstFamily}

@@ -8,7 +8,6 @@ pub mod GroupRows
 pub mod Hits
 pub mod VisitDone
 pub mod LevelRows
-pub mod AllLawful
 pub mod InWindows
 pub mod LineKept
 pub mod Inclusion

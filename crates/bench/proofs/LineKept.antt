@@ -9,7 +9,7 @@ use Rattle.policy.specs.SearchLemmas.{place_pos}
 use Rattle.geometry.specs.Address.{set_of, tag_of}
 use Rattle.standalone.specs.Cache.{touch_of}
 use Rattle.standalone.specs.declared.access.Access.{Access}
-use Rattle.bench.specs.Suite.{Suite, Lawful, meaning}
+use Rattle.policy.specs.Suite.{Suite, Lawful, meaning}
 use Rattle.bench.specs.Model.{LineModel, asked, touch_line}
 use Rattle.bench.specs.Kept.{LineKept, Recent, TouchedWith}
 

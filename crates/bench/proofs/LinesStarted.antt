@@ -5,7 +5,7 @@ use Rattle.standalone.specs.Rows.{laid}
 use Rattle.bench.specs.OpenLines.{kins_of}
 use Rattle.bench.specs.Start.{any_of, started_lines}
 use Rattle.bench.specs.Started.{new_row}
-use Rattle.bench.specs.Suite.{Suite, nesting}
+use Rattle.policy.specs.Suite.{Suite, nesting}
 use Rattle.bench.specs.Words.{Kin, line_words, lines_words, wide}
 use Rattle.bench.specs.declared.open_line.OpenLine.{OpenLine}
 use Rattle.bench.proofs.AnyOf.{wide_next, wide_past}

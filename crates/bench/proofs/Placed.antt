@@ -4,7 +4,7 @@ use Rattle.std.proofs.lemmas.Bool.{cases_lt}
 use Rattle.std.proofs.lemmas.List.{drop_at, drop-drop, drop-take, length-append, length-drop, length-take-le, take_at, take-take}
 use Rattle.standalone.specs.Rows.{row_at, with_row}
 use Rattle.standalone.proofs.Laid.{row_within}
-use Rattle.bench.specs.Suite.{Suite, Lawful}
+use Rattle.policy.specs.Suite.{Suite, Lawful}
 use Rattle.bench.specs.Rows.{Slot}
 use Rattle.bench.specs.Mixed.{Owned, own_step, sweep_all}
 use Rattle.bench.specs.Words.{Kin, line_words, lines_words, rows_at, slot_of, with_rows, words_of}

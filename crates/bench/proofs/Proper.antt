@@ -11,7 +11,7 @@ use Rattle.geometry.specs.Refusal.{Question, ask, first_no}
 use Rattle.geometry.proofs.Asked.{passes, stops}
 use Rattle.geometry.specs.Line.{line_questions, power_to, ways_taken}
 use Rattle.geometry.specs.declared.line.Line.{Line}
-use Rattle.bench.specs.Suite.{Suite, meaning, same}
+use Rattle.policy.specs.Suite.{Suite, meaning, same}
 use Rattle.bench.specs.Words.{Kin}
 use Rattle.bench.specs.Table.{Config, Family, Level, config_of, families, in_families, in_levels, kin, named, new_family, new_level}
 use Rattle.bench.specs.Opened.{No, at_line, before, in_order, lines_refusal, or_else, table_refusal}

@@ -4,7 +4,7 @@ use Rattle.std.specs.List.{AllByRecursion}
 use Rattle.std.proofs.lemmas.List.{append_assoc, drop_more, length-map, length-take-le, map_push, set_at, take_more}
 use Rattle.standalone.specs.Cache.{Cache}
 use Rattle.standalone.specs.declared.access.Counts.{Counts}
-use Rattle.bench.specs.Suite.{Suite}
+use Rattle.policy.specs.Suite.{Suite}
 use Rattle.bench.specs.BenchTracks.{BenchTracks}
 use Rattle.bench.specs.Calls.{Model}
 use Rattle.bench.specs.Counted.{cache_record, hits_of, record_of, records_of}

@@ -3,7 +3,7 @@ use Rattle.std.proofs.Common.{◌≡◌, ℕ, Bool, true, false, List, [], ◌�
 use Rattle.std.proofs.lemmas.Bool.{cond-true, cond-false, true≢false}
 use Rattle.policy.specs.declared.three.Member.{Member}
 use Rattle.policy.specs.declared.three.Member.TheVariants.{First, Second, Further}
-use Rattle.bench.specs.Suite.{Suite, meaning, nesting, nest, same}
+use Rattle.policy.specs.Suite.{Suite, meaning, nesting, nest, same}
 use Rattle.bench.specs.Rows.{Lead, step, step_alone, sweep}
 use Rattle.bench.specs.Mixed.{Owned, Leads, lead_of, with_lead, own_step, sweep_all, rows_of}
 

@@ -5,7 +5,7 @@ use Rattle.std.proofs.lemmas.List.{take_rest}
 use Rattle.std.proofs.lemmas.Bool.{cond-true, cond-false}
 use Rattle.policy.specs.declared.three.Member.{Member}
 use Rattle.bench.specs.Started.{new_row}
-use Rattle.bench.specs.Suite.{Suite, meaning}
+use Rattle.policy.specs.Suite.{Suite, meaning}
 use Rattle.bench.proofs.RowWords.{row_replaced}
 
 module _ (s : Suite) (follows : Bool) (k : Member) where

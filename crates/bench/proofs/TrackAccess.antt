@@ -8,7 +8,7 @@ use Rattle.geometry.specs.Refusal.{ask}
 use Rattle.standalone.specs.Cache.{Cache}
 use Rattle.standalone.specs.Counting.{one_more}
 use Rattle.standalone.specs.declared.access.Access.{Access}
-use Rattle.bench.specs.Suite.{Suite, Lawful}
+use Rattle.policy.specs.Suite.{Suite, Lawful}
 use Rattle.bench.specs.Asked.{access_refusal}
 use Rattle.bench.specs.BenchTracks.{BenchTracks}
 use Rattle.bench.specs.Calls.{Model, accessed, passed_by, touched}

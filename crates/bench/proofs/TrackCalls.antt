@@ -5,7 +5,7 @@ use Rattle.std.proofs.lemmas.List.{length-append, length-drop, length-map}
 use Rattle.std.proofs.lemmas.Bool.{leb-true}
 use Rattle.geometry.specs.Refusal.{ask}
 use Rattle.geometry.specs.declared.line.Line.{Line}
-use Rattle.bench.specs.Suite.{Suite, Lawful}
+use Rattle.policy.specs.Suite.{Suite, Lawful}
 use Rattle.bench.specs.Asked.{access_refusal, flush_refusal, frame_refusal}
 use Rattle.bench.specs.BenchTracks.{BenchTracks}
 use Rattle.bench.specs.Calls.{Do, Model, access, flush, flush_family, flushed, frame, framed, model_does, model_refusal, new_model, off, open_table, opened, window, with_windows, zero as zero-call, zero_family, zeroed}

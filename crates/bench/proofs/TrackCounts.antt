@@ -5,7 +5,7 @@ use Rattle.std.proofs.lemmas.List.{length-set}
 use Rattle.standalone.specs.Cache.{Cache}
 use Rattle.standalone.specs.Counting.{one_more}
 use Rattle.standalone.specs.declared.access.Access.{Access}
-use Rattle.bench.specs.Suite.{Suite}
+use Rattle.policy.specs.Suite.{Suite}
 use Rattle.bench.specs.Entries.{all_counted}
 use Rattle.bench.specs.Sums.{Summed, sums}
 use Rattle.bench.specs.Answers.{answers, level_answers, line_hit}

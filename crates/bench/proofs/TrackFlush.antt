@@ -2,7 +2,7 @@
 use Rattle.std.proofs.Common.{◌≡◌, ℕ, ◌+◌, cond, List, [], ◌∷◌, ◌++◌, map, length, refl, ap, ◌∙◌, ap₂}
 use Rattle.std.specs.List.{AllByRecursion}
 use Rattle.standalone.specs.Cache.{Cache}
-use Rattle.bench.specs.Suite.{Suite}
+use Rattle.policy.specs.Suite.{Suite}
 use Rattle.bench.specs.Calls.{flush_family, flush_level, flush_line}
 use Rattle.bench.specs.Model.{FamilyModel, LevelModel, LineModel, family_of, level_caches, level_of, levels_compared, line_caches, lines_compared, separate, single}
 use Rattle.bench.specs.Sums.{Summed, sums}

@@ -9,7 +9,7 @@ use Rattle.std.proofs.lemmas.Bool.{cases_eq, cond_both, cond-false, cond-true, e
 use Rattle.geometry.specs.Address.{set_of, tag_of}
 use Rattle.standalone.specs.Cache.{touch_of}
 use Rattle.standalone.specs.declared.access.Access.{Access}
-use Rattle.bench.specs.Suite.{Suite, Lawful, meaning}
+use Rattle.policy.specs.Suite.{Suite, Lawful, meaning}
 use Rattle.bench.specs.Mixed.{Owned, SweptAll, own_step, sweep_all}
 use Rattle.bench.specs.Words.{Kin, line_words, lines_words, one_way, rows_at, spread, wide, with_rows}
 use Rattle.bench.specs.Direct.{direct_after, direct_compared, direct_hit}

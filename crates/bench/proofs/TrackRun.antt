@@ -1,6 +1,6 @@
 -- A bench tracks the reference model over any list of calls, and answers each call as it does: one pass is worth the model's run.
 use Rattle.std.proofs.Common.{◌≡◌, ℕ, List, [], ◌∷◌, length, Some, None, Option, refl, ap, ◌∙◌, subst, ap₂}
-use Rattle.bench.specs.Suite.{Suite, Lawful}
+use Rattle.policy.specs.Suite.{Suite, Lawful}
 use Rattle.bench.specs.BenchTracks.{BenchTracks}
 use Rattle.bench.specs.Calls.{Do, Model, access, flush, frame, model_after, model_answers, model_does, model_run, new_model, off, open_table, unless_refused, window, zero}
 use Rattle.bench.specs.Opened.{No}

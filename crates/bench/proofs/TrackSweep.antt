@@ -6,7 +6,7 @@ use Rattle.std.proofs.lemmas.List.{drop_at, drop-drop, length-append, take-appen
 use Rattle.std.proofs.lemmas.Bool.{cond_both, eqb-true, true≢false}
 use Rattle.geometry.specs.Address.{set_of, tag_of}
 use Rattle.standalone.specs.declared.access.Access.{Access}
-use Rattle.bench.specs.Suite.{Suite, Lawful}
+use Rattle.policy.specs.Suite.{Suite, Lawful}
 use Rattle.bench.specs.Mixed.{own_step}
 use Rattle.bench.specs.Direct.{direct_hit}
 use Rattle.bench.specs.Level.{Visited, all_hit, level_words}

@@ -6,7 +6,7 @@ use Rattle.std.proofs.ByRecursion.{All-append, All-map, All-weaker}
 use Rattle.std.proofs.lemmas.List.{length-append, length-map}
 use Rattle.std.proofs.lemmas.Bool.{cond_both}
 use Rattle.standalone.specs.Cache.{Cache}
-use Rattle.bench.specs.Suite.{Suite}
+use Rattle.policy.specs.Suite.{Suite}
 use Rattle.bench.specs.Words.{Kin, one_way, rows_at, wide}
 use Rattle.bench.specs.Level.{level_words}
 use Rattle.bench.specs.Table.{Config, Family, Level, families, in_families, in_levels, levels_words}

@@ -1,6 +1,6 @@
 -- The swept rows of one set, of all policies, beside the rows of the standalone caches.
 use Rattle.std.specs.Prelude.{◌≡◌, ℕ, ◌+◌, Bool, true, false, List, [], ◌∷◌}
-use Rattle.bench.specs.Suite.{Suite, meaning, nesting}
+use Rattle.policy.specs.Suite.{Suite, meaning, nesting}
 use Rattle.bench.specs.Mixed.{Owned, rows_of}
 use Rattle.bench.specs.Beside.{Beside}
 

@@ -2,7 +2,7 @@
 use Rattle.std.specs.Prelude.{ℕ, Bool, List, [], ◌∷◌, ◌++◌, map}
 use Rattle.standalone.specs.Cache.{touch_of}
 use Rattle.standalone.specs.declared.access.Access.{Access}
-use Rattle.bench.specs.Suite.{Suite, meaning}
+use Rattle.policy.specs.Suite.{Suite, meaning}
 use Rattle.bench.specs.Model.{FamilyModel, LevelModel, LineModel}
 
 -- whether the cache of a line, in a level of so many sets and block size b, hits

@@ -1,7 +1,7 @@
 -- A bench and its workspace beside the reference model.
 use Rattle.std.specs.Prelude.{◌≡◌, ℕ, ◌<◌, ◌≤◌, map, length, None, slice_index}
 use Rattle.std.specs.List.{AllByRecursion}
-use Rattle.bench.specs.Suite.{Suite}
+use Rattle.policy.specs.Suite.{Suite}
 use Rattle.bench.specs.Calls.{Model}
 use Rattle.bench.specs.Kept.{FamiliesKept, HeldLast}
 use Rattle.bench.specs.Model.{family_of, line_caches, separate}

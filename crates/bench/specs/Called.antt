@@ -1,6 +1,6 @@
 -- What a call of a bench gives and leaves.
 use Rattle.std.specs.Prelude.{◌≡◌, ℕ, List, length, Option}
-use Rattle.bench.specs.Suite.{Suite}
+use Rattle.policy.specs.Suite.{Suite}
 use Rattle.bench.specs.Calls.{Do, Model, model_after, model_refusal, new_model}
 use Rattle.bench.specs.BenchTracks.{BenchTracks}
 use Rattle.bench.specs.Opened.{No}

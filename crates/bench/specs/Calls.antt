@@ -5,7 +5,7 @@ use Rattle.standalone.specs.declared.access.Access.{Access}
 use Rattle.bench.specs.Asked.{access_refusal, flush_refusal, frame_refusal, off_refusal, window_refusal}
 use Rattle.bench.specs.Model.{FamilyModel, LevelModel, LineModel, new_family, touch_family}
 use Rattle.bench.specs.Opened.{No, need, open_refusal}
-use Rattle.bench.specs.Suite.{Suite, meaning}
+use Rattle.policy.specs.Suite.{Suite, meaning}
 use Rattle.bench.specs.Table.{config_of, families}
 use Rattle.bench.specs.Window.{cached, new_windows, off_window, on_window}
 use Rattle.bench.specs.declared.window.Window.{Window}

@@ -9,7 +9,7 @@ use Rattle.bench.specs.Model.{line_caches, separate}
 use Rattle.bench.specs.Opened.{No}
 use Rattle.bench.specs.BenchTracks.{BenchTracks}
 use Rattle.bench.specs.State.{Bench, State}
-use Rattle.bench.specs.Suite.{Suite}
+use Rattle.policy.specs.Suite.{Suite}
 
 -- hits are the cached accesses of each kind without the misses
 abbrev pub hits_of : List ℕ → List ℕ → List ℕ

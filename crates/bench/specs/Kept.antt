@@ -3,7 +3,7 @@
 use Rattle.std.specs.Prelude.{◌≡◌, ℕ, ◌+◌, ◌*◌, ◌/◌, ◌%◌, ◌^◌, ◌<◌, true, List, [], ◌∷◌, length, Some, None, Option, slice_index_or}
 use Rattle.std.specs.List.{AllByRecursion}
 use Rattle.policy.specs.Policy.{Meaning}
-use Rattle.bench.specs.Suite.{Suite, meaning}
+use Rattle.policy.specs.Suite.{Suite, meaning}
 use Rattle.bench.specs.Model.{FamilyModel, LevelModel, LineModel}
 
 -- a row of a ways that was touched with tag t last

@@ -5,7 +5,7 @@ use Rattle.policy.specs.Stack.{fifo_nest, lru_nest}
 use Rattle.policy.specs.Standard.{standard}
 use Rattle.geometry.specs.declared.line.Line.{Line}
 use Rattle.standalone.specs.Known.{read, six_reads}
-use Rattle.bench.specs.Suite.{Suite, suite}
+use Rattle.policy.specs.Suite.{Suite, suite}
 use Rattle.bench.specs.Calls.{Do, Model, access, model_run, new_model, open_table, window}
 use Rattle.bench.specs.Model.{line_caches, separate}
 use Rattle.bench.specs.Opened.{No, need}

@@ -1,4 +1,3 @@
-pub mod Suite
 pub mod Rows
 pub mod Mixed
 pub mod Beside

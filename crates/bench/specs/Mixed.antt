@@ -2,7 +2,7 @@
 use Rattle.std.specs.Prelude.{ℕ, ◌+◌, Bool, cond, List, [], ◌∷◌, None, Option}
 use Rattle.policy.specs.declared.three.Member.{Member}
 use Rattle.policy.specs.declared.three.Member.TheVariants.{First, Second, Further}
-use Rattle.bench.specs.Suite.{Suite, meaning, nesting, nest, same}
+use Rattle.policy.specs.Suite.{Suite, meaning, nesting, nest, same}
 use Rattle.bench.specs.Rows.{Slot, Lead, Stepped, step, step_alone}
 
 -- A row, and whose it is.

@@ -4,7 +4,7 @@ use Rattle.std.specs.Prelude.{ℕ, ◌+◌, Bool, true, false, cond, List, [], �
 use Rattle.geometry.specs.Address.{set_of, tag_of}
 use Rattle.standalone.specs.Cache.{Cache, accessed, new_cache}
 use Rattle.standalone.specs.declared.access.Access.{Access}
-use Rattle.bench.specs.Suite.{Suite, meaning}
+use Rattle.policy.specs.Suite.{Suite, meaning}
 use Rattle.bench.specs.Table.{Family, Level}
 use Rattle.bench.specs.Words.{Kin, one_way}
 

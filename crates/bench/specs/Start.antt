@@ -2,7 +2,7 @@
 use Rattle.std.specs.Prelude.{ℕ, ◌+◌, ◌*◌, Bool, true, false, cond, ◌&&◌, List, [], ◌∷◌, ◌++◌, replicate}
 use Rattle.policy.specs.declared.three.Member.{Member}
 use Rattle.standalone.specs.Rows.{laid}
-use Rattle.bench.specs.Suite.{Suite, meaning, nesting, same}
+use Rattle.policy.specs.Suite.{Suite, meaning, nesting, same}
 use Rattle.bench.specs.Table.{Family, Level}
 use Rattle.bench.specs.Words.{Kin, wide}
 

@@ -3,7 +3,7 @@ use Rattle.std.specs.Prelude.{◌≡◌, ℕ, Bool, cond, List, ◌∷◌, ◌++
 use Rattle.policy.specs.declared.three.Member.{Member}
 use Rattle.bench.specs.Spans.{SpansFamilies, SpansLevels}
 use Rattle.bench.specs.Start.{started, started_levels}
-use Rattle.bench.specs.Suite.{Suite, meaning}
+use Rattle.policy.specs.Suite.{Suite, meaning}
 use Rattle.bench.specs.Table.{Family, Level, families_words, levels_words}
 use Rattle.bench.specs.declared.open_line.OpenLine.{OpenLine}
 

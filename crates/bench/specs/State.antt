@@ -9,7 +9,7 @@ use Rattle.bench.specs.Level.{Visited}
 use Rattle.bench.specs.Mixed.{own_step}
 use Rattle.bench.specs.Opened.{No, open_refusal}
 use Rattle.bench.specs.Start.{started}
-use Rattle.bench.specs.Suite.{Suite}
+use Rattle.policy.specs.Suite.{Suite}
 use Rattle.bench.specs.Sweep.{sweep_families}
 use Rattle.bench.specs.Table.{Config, config_of, families, families_words}
 use Rattle.bench.specs.Window.{cached, new_windows, off_window, on_window}

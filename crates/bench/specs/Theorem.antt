@@ -3,7 +3,7 @@ use Rattle.std.specs.Prelude.{◌≡◌, ℕ, ◌/◌, ◌≤◌, true, List, �
 use Rattle.std.specs.List.{AllByRecursion}
 use Rattle.standalone.specs.Counting.{one_more}
 use Rattle.standalone.specs.declared.access.Access.{Access}
-use Rattle.bench.specs.Suite.{Suite}
+use Rattle.policy.specs.Suite.{Suite}
 use Rattle.bench.specs.Calls.{Do, access, model_answers, model_refusal, model_run, new_model}
 use Rattle.bench.specs.Kept.{Holds}
 use Rattle.bench.specs.Model.{FamilyModel, LineModel, touch_line}

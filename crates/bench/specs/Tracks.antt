@@ -1,6 +1,6 @@
 -- The workspace's words beside the reference model's caches.
 use Rattle.std.specs.Prelude.{◌≡◌, ℕ, ◌*◌, ◌<◌, cond, List, [], ◌∷◌, map, length, take, drop, Some, None, Option, slice_index_or}
-use Rattle.bench.specs.Suite.{Suite}
+use Rattle.policy.specs.Suite.{Suite}
 use Rattle.bench.specs.Words.{Kin, one_way, rows_at, wide}
 use Rattle.bench.specs.Level.{level_words}
 use Rattle.bench.specs.Table.{levels_words}

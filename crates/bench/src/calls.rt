@@ -1,6 +1,5 @@
 // The calls that take the workspace.
 ghost use Rattle.std.specs.Prelude.{◌≡◌, ◌+◌, ◌<◌, ◌≤◌, false, length, Some, None, MatchResult};
-ghost use Rattle.policy.specs.Three.{three};
 ghost use Rattle.geometry.specs.Refusal.{refusal_number};
 ghost use Rattle.bench.specs.Called.{Called};
 ghost use Rattle.bench.specs.Calls.{access as an-access, flush, open_table};
@@ -9,7 +8,6 @@ ghost use Rattle.bench.specs.Held.{bench_of, lines_of};
 ghost use Rattle.bench.specs.Refused.{no_of};
 ghost use Rattle.bench.specs.Spans.{configs};
 ghost use Rattle.bench.specs.State.{more, restarted, touch_state};
-ghost use Rattle.bench.specs.Suite.{suite};
 
 use crate::access::sweep_table;
 use crate::bench::Bench;
@@ -21,8 +19,7 @@ use crate::sweep::Reach;
 use crate::table::Table;
 use geometry::line::Line;
 use geometry::refusal::Refusal;
-use policy::three::Policies;
-use policy::traits::{Nesting, Policy};
+use policy::suite::Suite;
 use standalone::access::Access;
 
 impl Tally {
@@ -41,28 +38,28 @@ impl Tally {
 }
 
 // Starts the rows of all levels of a table, and empties their direct-mapped caches.
-fn start<A: Nesting, B: Nesting, C: Policy>(
-    policies: &Policies<A, B, C>,
+fn start<S: Suite>(
+    policies: &S,
     table: &Table,
     workspace: &mut [u32],
 )
     requires { table.now.need ≤ length workspace.old }
-    ensures { workspace.new ≡ restarted (suite (three A.Policy.meaning B.Policy.meaning C.Policy.meaning) A.Nesting.nest B.Nesting.nest) (configs (lines_of table.now)) workspace.old }
+    ensures { workspace.new ≡ restarted S.suite (configs (lines_of table.now)) workspace.old }
 {
     let count = table.count;
     start_families(policies, &table.lines[..count], workspace);
 }
 
 // A cached access touches its tag in every cache, by the sweep.
-fn touch<A: Nesting, B: Nesting, C: Policy>(
-    policies: &Policies<A, B, C>,
+fn touch<S: Suite>(
+    policies: &S,
     held: &mut Held,
     workspace: &mut [u32],
     address: u32,
     kind: usize,
 )
     requires { (held.old.table.need ≤ length workspace.old) × ((kind < 3) × (held.old.tally.accesses < 4294967295)) }
-    ensures { bench_of held.new workspace.new ≡ touch_state (suite (three A.Policy.meaning B.Policy.meaning C.Policy.meaning) A.Nesting.nest B.Nesting.nest) (record { kind = kind; address = address }) (bench_of held.old workspace.old) }
+    ensures { bench_of held.new workspace.new ≡ touch_state S.suite (record { kind = kind; address = address }) (bench_of held.old workspace.old) }
 {
     let Held {
         table,
@@ -81,10 +78,10 @@ fn touch<A: Nesting, B: Nesting, C: Policy>(
     *last = Some(address);
 }
 
-impl<A: Nesting, B: Nesting, C: Policy> Bench<A, B, C> {
+impl<S: Suite> Bench<S> {
     // Opens a table: all counts and frames are 0, all rows are started, and the windows stay.
     pub fn open(&mut self, lines: &[Line], workspace: &mut [u32]) -> Result<(), Refused>
-        ensures { MatchResult result (λ _. Called (suite (three A.Policy.meaning B.Policy.meaning C.Policy.meaning) A.Nesting.nest B.Nesting.nest) (open_table lines.now) (bench_of self.old.held workspace.old) (bench_of self.new.held workspace.new) None) (λ e. Called (suite (three A.Policy.meaning B.Policy.meaning C.Policy.meaning) A.Nesting.nest B.Nesting.nest) (open_table lines.now) (bench_of self.old.held workspace.old) (bench_of self.new.held workspace.new) (Some (no_of e))) }
+        ensures { MatchResult result (λ _. Called S.suite (open_table lines.now) (bench_of self.old.held workspace.old) (bench_of self.new.held workspace.new) None) (λ e. Called S.suite (open_table lines.now) (bench_of self.old.held workspace.old) (bench_of self.new.held workspace.new) (Some (no_of e))) }
     {
         let table = Table::read(&self.policies, lines)?;
         if workspace.len() < table.need {
@@ -103,7 +100,7 @@ impl<A: Nesting, B: Nesting, C: Policy> Bench<A, B, C> {
 
     // An access: a cached one is a hit or a miss of every line, an uncached one is only counted.
     pub fn access(&mut self, access: &Access, workspace: &mut [u32]) -> Result<(), Refusal>
-        ensures { MatchResult result (λ _. Called (suite (three A.Policy.meaning B.Policy.meaning C.Policy.meaning) A.Nesting.nest B.Nesting.nest) (an-access access.now) (bench_of self.old.held workspace.old) (bench_of self.new.held workspace.new) None) (λ e. Called (suite (three A.Policy.meaning B.Policy.meaning C.Policy.meaning) A.Nesting.nest B.Nesting.nest) (an-access access.now) (bench_of self.old.held workspace.old) (bench_of self.new.held workspace.new) (Some (record { number = refusal_number e; line = 0 }))) }
+        ensures { MatchResult result (λ _. Called S.suite (an-access access.now) (bench_of self.old.held workspace.old) (bench_of self.new.held workspace.new) None) (λ e. Called S.suite (an-access access.now) (bench_of self.old.held workspace.old) (bench_of self.new.held workspace.new) (Some (record { number = refusal_number e; line = 0 }))) }
     {
         if workspace.len() < self.held.table.need {
             return Err(Refusal::Memory);
@@ -129,7 +126,7 @@ impl<A: Nesting, B: Nesting, C: Policy> Bench<A, B, C> {
 
     // Starts all rows again, and empties the direct-mapped caches.
     pub fn flush(&mut self, workspace: &mut [u32]) -> Result<(), Refusal>
-        ensures { MatchResult result (λ _. Called (suite (three A.Policy.meaning B.Policy.meaning C.Policy.meaning) A.Nesting.nest B.Nesting.nest) flush (bench_of self.old.held workspace.old) (bench_of self.new.held workspace.new) None) (λ e. Called (suite (three A.Policy.meaning B.Policy.meaning C.Policy.meaning) A.Nesting.nest B.Nesting.nest) flush (bench_of self.old.held workspace.old) (bench_of self.new.held workspace.new) (Some (record { number = refusal_number e; line = 0 }))) }
+        ensures { MatchResult result (λ _. Called S.suite flush (bench_of self.old.held workspace.old) (bench_of self.new.held workspace.new) None) (λ e. Called S.suite flush (bench_of self.old.held workspace.old) (bench_of self.new.held workspace.new) (Some (record { number = refusal_number e; line = 0 }))) }
     {
         if workspace.len() < self.held.table.need {
             return Err(Refusal::Memory);

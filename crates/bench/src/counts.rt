@@ -1,15 +1,13 @@
 // What a bench tells of its counts.
 ghost use Rattle.std.specs.Prelude.{◌≡◌, ◌≤◌, ◌++◌, map, length, drop, Some, None, MatchResult, OnOk};
-ghost use Rattle.policy.specs.Three.{three};
 ghost use Rattle.geometry.specs.Refusal.{refusal_number};
 ghost use Rattle.bench.specs.Counted.{CountsTracked, TotalsTracked, counts_refusal, record_of, records_of};
 ghost use Rattle.bench.specs.Held.{bench_of, state_of};
-ghost use Rattle.bench.specs.Suite.{suite};
 
 use crate::bench::Bench;
 use crate::miss::Misses;
 use geometry::refusal::Refusal;
-use policy::traits::{Nesting, Policy};
+use policy::suite::Suite;
 use standalone::access::Counts;
 
 // All accesses, the uncached ones, frames, and the comparisons that the sweep made.
@@ -46,11 +44,11 @@ fn fill(cached: &Misses, misses: &[Misses], records: &mut [Counts])
     }
 }
 
-impl<A: Nesting, B: Nesting, C: Policy> Bench<A, B, C> {
+impl<S: Suite> Bench<S> {
     // The totals.
     pub fn totals(&self) -> Totals
         ensures exact { (result.accesses ≡ (state_of self.now.held).accesses) × (result.uncached ≡ (state_of self.now.held).uncached) × (result.frames ≡ (state_of self.now.held).frames) × (result.comparisons ≡ (state_of self.now.held).comparisons) }
-        ensures tracks { TotalsTracked (suite (three A.Policy.meaning B.Policy.meaning C.Policy.meaning) A.Nesting.nest B.Nesting.nest) (bench_of self.now.held) result.accesses result.uncached result.frames result.comparisons }
+        ensures tracks { TotalsTracked S.suite (bench_of self.now.held) result.accesses result.uncached result.frames result.comparisons }
     {
         let tally = &self.held.tally;
         Totals {
@@ -65,7 +63,7 @@ impl<A: Nesting, B: Nesting, C: Policy> Bench<A, B, C> {
     pub fn counts(&self, records: &mut [Counts]) -> Result<(), Refusal>
         ensures passes { MatchResult result (λ _. counts_refusal (state_of self.now.held) (length records.old) ≡ None) (λ e. counts_refusal (state_of self.now.held) (length records.old) ≡ Some (record { number = refusal_number e; line = 0 })) }
         ensures records { MatchResult result (λ _. records.new ≡ records_of (state_of self.now.held) ++ drop (length (records_of (state_of self.now.held))) records.old) (λ _. records.new ≡ records.old) }
-        ensures tracks { OnOk result (CountsTracked (suite (three A.Policy.meaning B.Policy.meaning C.Policy.meaning) A.Nesting.nest B.Nesting.nest) (bench_of self.now.held) records.new) }
+        ensures tracks { OnOk result (CountsTracked S.suite (bench_of self.now.held) records.new) }
     {
         let count = self.held.table.count;
         if records.len() < count {

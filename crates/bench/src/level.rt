@@ -1,19 +1,16 @@
 // One level in a sweep, whose lines keep their own misses.
 ghost use Rattle.std.specs.Prelude.{◌≡◌, ◌<◌, ◌≤◌, length};
-ghost use Rattle.policy.specs.Three.{three};
 ghost use Rattle.bench.specs.Direct.{direct_hit};
 ghost use Rattle.bench.specs.Entries.{kin_of};
 ghost use Rattle.bench.specs.Lead.{leads_seen};
 ghost use Rattle.bench.specs.Level.{LevelVisited, level_words};
 ghost use Rattle.bench.specs.Mixed.{no_leads, own_step};
-ghost use Rattle.bench.specs.Suite.{suite};
 
 use crate::direct::visit_direct;
 use crate::entry::Entry;
 use crate::lead::{Lead, Leads, ROW_WORDS};
 use crate::rows::{Place, sweep_rows};
-use policy::three::Policies;
-use policy::traits::{Nesting, Policy};
+use policy::suite::Suite;
 
 // Nothing is told yet.
 pub(crate) fn no_leads() -> Leads
@@ -33,15 +30,15 @@ pub(crate) fn no_leads() -> Leads
 }
 
 // Visits a level: whether its direct-mapped cache hit, and the comparisons that are reported.
-pub(crate) fn visit_level<A: Nesting, B: Nesting, C: Policy>(
-    policies: &Policies<A, B, C>,
+pub(crate) fn visit_level<S: Suite>(
+    policies: &S,
     lines: &mut [Entry],
     words: &mut [u32],
     at: Place,
 ) -> (bool, u64)
     requires { (level_words at.sets (kin_of lines.old) ≤ length words.old) × ((at.set < at.sets) × (at.kind < 3)) }
     ensures hit { result.0 ≡ direct_hit words.old at.set at.tag }
-    ensures visited { LevelVisited (own_step (suite (three A.Policy.meaning B.Policy.meaning C.Policy.meaning) A.Nesting.nest B.Nesting.nest)) at.sets at.set at.tag at.kind lines.old words.old lines.new words.new result.1 }
+    ensures visited { LevelVisited (own_step S.suite) at.sets at.set at.tag at.kind lines.old words.old lines.new words.new result.1 }
 {
     let (hit, seen) = visit_direct(words, at.set, at.tag);
     if hit {

@@ -1,6 +1,5 @@
 // The lines of a table, and what is asked of them.
 ghost use Rattle.std.specs.Prelude.{◌≡◌, ◌≤◌, ◌&&◌, [], ◌∷◌, ◌++◌, map, length, take, IfOk, Some, None, MatchResult, OnOk};
-ghost use Rattle.policy.specs.Three.{three};
 ghost use Rattle.geometry.specs.Line.{GeometryOf, line_questions};
 ghost use Rattle.geometry.specs.Refusal.{ask, first_no, refusal_number};
 ghost use Rattle.bench.specs.Opened.{before, in_order, lines_refusal, table_refusal};
@@ -15,8 +14,8 @@ use crate::table::Table;
 use geometry::geometry::Geometry;
 use geometry::line::Line;
 use geometry::refusal::Refusal;
-use policy::three::{Member, Policies};
-use policy::traits::{Nesting, Policy};
+use policy::suite::Suite;
+use policy::three::Member;
 
 // Whether a line stands before another: by block size, then sets, then letter, then ways.
 fn before(x: &Line, y: &Line) -> bool
@@ -45,13 +44,13 @@ fn in_order(last: &Option<Line>, line: &Line) -> bool
 }
 
 // The geometry of a line that is allowed and greater than the last one, or the first question that it does not pass.
-fn check_line<A: Nesting, B: Nesting, C: Policy>(
-    policies: &Policies<A, B, C>,
+fn check_line<S: Suite>(
+    policies: &S,
     last: &Option<Line>,
     line: &Line,
 ) -> Result<Geometry, Refusal>
-    ensures passes { MatchResult result (λ _. first_no (line_questions (three A.Policy.meaning B.Policy.meaning C.Policy.meaning) line.now ++ (ask 10 (in_order last.now line.now) ∷ [])) ≡ None) (λ e. first_no (line_questions (three A.Policy.meaning B.Policy.meaning C.Policy.meaning) line.now ++ (ask 10 (in_order last.now line.now) ∷ [])) ≡ Some (refusal_number e)) }
-    ensures geometry { IfOk result (λ g. GeometryOf (three A.Policy.meaning B.Policy.meaning C.Policy.meaning) line.now g) }
+    ensures passes { MatchResult result (λ _. first_no (line_questions S.suite.three line.now ++ (ask 10 (in_order last.now line.now) ∷ [])) ≡ None) (λ e. first_no (line_questions S.suite.three line.now ++ (ask 10 (in_order last.now line.now) ∷ [])) ≡ Some (refusal_number e)) }
+    ensures geometry { IfOk result (λ g. GeometryOf S.suite.three line.now g) }
 {
     let geometry = line.check(policies)?;
     if !in_order(last, line) {
@@ -73,14 +72,14 @@ fn new_line(geometry: Geometry) -> OpenLine
 }
 
 // Reads lines into entries, until one is refused.
-fn read_lines<A: Nesting, B: Nesting, C: Policy>(
-    policies: &Policies<A, B, C>,
+fn read_lines<S: Suite>(
+    policies: &S,
     lines: &[Line],
     entries: &mut [OpenLine],
 ) -> Result<(), Refused>
     requires { (length lines.now ≤ length entries.old) × (length lines.now ≤ 64) }
-    ensures passes { MatchResult result (λ _. lines_refusal (three A.Policy.meaning B.Policy.meaning C.Policy.meaning) 1 None lines.now ≡ None) (λ e. lines_refusal (three A.Policy.meaning B.Policy.meaning C.Policy.meaning) 1 None lines.now ≡ Some (no_of e)) }
-    ensures configs { OnOk result (configs (take (length lines.now) entries.new) ≡ map (config_of (three A.Policy.meaning B.Policy.meaning C.Policy.meaning)) lines.now) }
+    ensures passes { MatchResult result (λ _. lines_refusal S.suite.three 1 None lines.now ≡ None) (λ e. lines_refusal S.suite.three 1 None lines.now ≡ Some (no_of e)) }
+    ensures configs { OnOk result (configs (take (length lines.now) entries.new) ≡ map (config_of S.suite.three) lines.now) }
 {
     let mut last = None;
     for k in 0..lines.len() {
@@ -118,12 +117,12 @@ impl Table {
     }
 
     // The table of these lines, or why it is refused.
-    pub(crate) fn read<A: Nesting, B: Nesting, C: Policy>(
-        policies: &Policies<A, B, C>,
+    pub(crate) fn read<S: Suite>(
+        policies: &S,
         lines: &[Line],
     ) -> Result<Table, Refused>
-        ensures passes { MatchResult result (λ _. table_refusal (three A.Policy.meaning B.Policy.meaning C.Policy.meaning) lines.now ≡ None) (λ e. table_refusal (three A.Policy.meaning B.Policy.meaning C.Policy.meaning) lines.now ≡ Some (no_of e)) }
-        ensures configs { IfOk result (λ t. configs (take t.count t.lines) ≡ map (config_of (three A.Policy.meaning B.Policy.meaning C.Policy.meaning)) lines.now) }
+        ensures passes { MatchResult result (λ _. table_refusal S.suite.three lines.now ≡ None) (λ e. table_refusal S.suite.three lines.now ≡ Some (no_of e)) }
+        ensures configs { IfOk result (λ t. configs (take t.count t.lines) ≡ map (config_of S.suite.three) lines.now) }
     {
         let count = lines.len();
         if count == 0 || count > 64 {

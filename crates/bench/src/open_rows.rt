@@ -1,11 +1,9 @@
 // The rows of one set in the lines of one level of an open table.
 ghost use Rattle.std.specs.Prelude.{◌≡◌, ◌<◌, ◌≤◌, length};
-ghost use Rattle.policy.specs.Three.{three};
 ghost use Rattle.bench.specs.OpenLines.{kins_of};
 ghost use Rattle.bench.specs.Group.{SetSwept};
 ghost use Rattle.bench.specs.Lead.{leads_seen};
 ghost use Rattle.bench.specs.Mixed.{no_leads, own_step};
-ghost use Rattle.bench.specs.Suite.{suite};
 ghost use Rattle.bench.specs.Words.{lines_words, wide};
 
 use crate::lead::Leads;
@@ -13,12 +11,11 @@ use crate::miss::{Misses, count_miss};
 use crate::open_line::OpenLine;
 use crate::owned::step_owned;
 use crate::rows::Place;
-use policy::three::Policies;
-use policy::traits::{Nesting, Policy};
+use policy::suite::Suite;
 
 // Sweeps the rows of one set, the widest line first, and counts misses; answers the comparisons that are reported.
-pub(crate) fn sweep_set<A: Nesting, B: Nesting, C: Policy>(
-    policies: &Policies<A, B, C>,
+pub(crate) fn sweep_set<S: Suite>(
+    policies: &S,
     lines: &[OpenLine],
     misses: &mut [Misses],
     words: &mut [u32],
@@ -26,7 +23,7 @@ pub(crate) fn sweep_set<A: Nesting, B: Nesting, C: Policy>(
     leads: &mut Leads,
 ) -> u64
     requires { (length misses.old ≡ length lines.now) × ((lines_words at.sets (wide (kins_of lines.now)) ≤ length words.old) × ((at.set < at.sets) × ((at.kind < 3) × (leads_seen leads.old ≡ no_leads)))) }
-    ensures { SetSwept (own_step (suite (three A.Policy.meaning B.Policy.meaning C.Policy.meaning) A.Nesting.nest B.Nesting.nest)) at.sets at.set at.tag at.kind (kins_of lines.now) misses.old words.old misses.new words.new result (leads_seen leads.new) }
+    ensures { SetSwept (own_step S.suite) at.sets at.set at.tag at.kind (kins_of lines.now) misses.old words.old misses.new words.new result (leads_seen leads.new) }
 {
     if lines.is_empty() {
         return 0;

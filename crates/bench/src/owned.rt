@@ -1,29 +1,27 @@
 // One row of any of the three policies in a sweep.
 ghost use Rattle.std.specs.Prelude.{◌≡◌, ◌<◌, ◌≤◌, length};
-ghost use Rattle.policy.specs.Three.{three};
 ghost use Rattle.bench.specs.Lead.{leads_seen};
 ghost use Rattle.bench.specs.Mixed.{own_step, with_lead};
-ghost use Rattle.bench.specs.Suite.{suite};
 ghost use Rattle.bench.specs.Words.{slot_of, words_of};
 
 use crate::lead::Leads;
 use crate::row::{step_row, touch_alone};
-use policy::three::{Member, Policies};
-use policy::traits::{Nesting, Policy};
+use policy::suite::Suite;
+use policy::three::Member;
 
 // Sweeps one row after the wider ones of its policy: whether it hit, and the comparisons that are reported.
-pub(crate) fn step_owned<A: Nesting, B: Nesting, C: Policy>(
-    policies: &Policies<A, B, C>,
+pub(crate) fn step_owned<S: Suite>(
+    policies: &S,
     member: Member,
     words: &mut [u32],
     tag: u32,
     leads: &mut Leads,
 ) -> (bool, usize)
     requires { (1 < length words.old) × (length words.old ≤ 18) }
-    ensures hit { result.0 ≡ (own_step (suite (three A.Policy.meaning B.Policy.meaning C.Policy.meaning) A.Nesting.nest B.Nesting.nest) (record { member = member; slot = slot_of words.old }) tag (leads_seen leads.old)).hit }
-    ensures comparisons { result.1 ≡ (own_step (suite (three A.Policy.meaning B.Policy.meaning C.Policy.meaning) A.Nesting.nest B.Nesting.nest) (record { member = member; slot = slot_of words.old }) tag (leads_seen leads.old)).comparisons }
-    ensures words { words.new ≡ words_of (own_step (suite (three A.Policy.meaning B.Policy.meaning C.Policy.meaning) A.Nesting.nest B.Nesting.nest) (record { member = member; slot = slot_of words.old }) tag (leads_seen leads.old)).slot }
-    ensures leads { leads_seen leads.new ≡ with_lead (leads_seen leads.old) member (own_step (suite (three A.Policy.meaning B.Policy.meaning C.Policy.meaning) A.Nesting.nest B.Nesting.nest) (record { member = member; slot = slot_of words.old }) tag (leads_seen leads.old)).lead }
+    ensures hit { result.0 ≡ (own_step S.suite (record { member = member; slot = slot_of words.old }) tag (leads_seen leads.old)).hit }
+    ensures comparisons { result.1 ≡ (own_step S.suite (record { member = member; slot = slot_of words.old }) tag (leads_seen leads.old)).comparisons }
+    ensures words { words.new ≡ words_of (own_step S.suite (record { member = member; slot = slot_of words.old }) tag (leads_seen leads.old)).slot }
+    ensures leads { leads_seen leads.new ≡ with_lead (leads_seen leads.old) member (own_step S.suite (record { member = member; slot = slot_of words.old }) tag (leads_seen leads.old)).lead }
 {
     match member {
         Member::First => step_row(&policies.first, words, tag, &mut leads.first),

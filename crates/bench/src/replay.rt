@@ -1,19 +1,16 @@
 // A list of calls, one after the other.
 ghost use Rattle.std.specs.Prelude.{◌≡◌, ◌++◌, map, length, drop};
-ghost use Rattle.policy.specs.Three.{three};
 ghost use Rattle.bench.specs.Called.{Called};
 ghost use Rattle.bench.specs.Held.{bench_of};
 ghost use Rattle.bench.specs.Spoken.{answer_of, do_of, reply, spoken};
 ghost use Rattle.bench.specs.State.{bench_answers, bench_run, new_bench};
-ghost use Rattle.bench.specs.Suite.{suite};
 ghost use Rattle.bench.specs.Theorem.{OnePass};
 
 use crate::bench::Bench;
 use crate::call::Call;
 use crate::refused::Refused;
 use geometry::refusal::Refusal;
-use policy::three::Policies;
-use policy::traits::{Nesting, Policy};
+use policy::suite::Suite;
 
 // A refusal that is about no table line.
 fn plain(answer: Result<(), Refusal>) -> Option<Refused>
@@ -25,10 +22,10 @@ fn plain(answer: Result<(), Refusal>) -> Option<Refused>
     }
 }
 
-impl<A: Nesting, B: Nesting, C: Policy> Bench<A, B, C> {
+impl<S: Suite> Bench<S> {
     // Makes one call: nothing where it passed, or why it was refused.
     pub fn call(&mut self, call: &Call, workspace: &mut [u32]) -> Option<Refused>
-        ensures { Called (suite (three A.Policy.meaning B.Policy.meaning C.Policy.meaning) A.Nesting.nest B.Nesting.nest) (do_of call.now) (bench_of self.old.held workspace.old) (bench_of self.new.held workspace.new) (answer_of result) }
+        ensures { Called S.suite (do_of call.now) (bench_of self.old.held workspace.old) (bench_of self.new.held workspace.new) (answer_of result) }
     {
         match call {
             Call::Flush => plain(self.flush(workspace)),
@@ -50,15 +47,15 @@ impl<A: Nesting, B: Nesting, C: Policy> Bench<A, B, C> {
 
 // Gives a new bench a list of calls with one workspace, refused or not, and writes what each answered. Where the list of
 // answers is shorter than that of the calls, the calls beyond it are not made.
-pub fn replay<A: Nesting, B: Nesting, C: Policy>(
-    policies: Policies<A, B, C>,
+pub fn replay<S: Suite>(
+    policies: S,
     calls: &[Call],
     workspace: &mut [u32],
     answers: &mut [Option<Refused>],
-) -> Bench<A, B, C>
-    ensures answers { map answer_of answers.new ≡ bench_answers (suite (three A.Policy.meaning B.Policy.meaning C.Policy.meaning) A.Nesting.nest B.Nesting.nest) (spoken (length answers.old) calls.now) (new_bench workspace.old) ++ map answer_of (drop (length calls.now) answers.old) }
-    ensures bench { bench_of result.held workspace.new ≡ bench_run (suite (three A.Policy.meaning B.Policy.meaning C.Policy.meaning) A.Nesting.nest B.Nesting.nest) (spoken (length answers.old) calls.now) (new_bench workspace.old) }
-    ensures theorem { OnePass (suite (three A.Policy.meaning B.Policy.meaning C.Policy.meaning) A.Nesting.nest B.Nesting.nest) (spoken (length answers.old) calls.now) workspace.old }
+) -> Bench<S>
+    ensures answers { map answer_of answers.new ≡ bench_answers S.suite (spoken (length answers.old) calls.now) (new_bench workspace.old) ++ map answer_of (drop (length calls.now) answers.old) }
+    ensures bench { bench_of result.held workspace.new ≡ bench_run S.suite (spoken (length answers.old) calls.now) (new_bench workspace.old) }
+    ensures theorem { OnePass S.suite (spoken (length answers.old) calls.now) workspace.old }
 {
     let mut bench = Bench::new(policies);
     let count = calls.len().min(answers.len());

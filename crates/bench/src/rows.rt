@@ -1,18 +1,15 @@
 // The rows of one set in the lines of one level, each of which keeps its own misses.
 ghost use Rattle.std.specs.Prelude.{◌≡◌, ◌<◌, ◌≤◌, length};
-ghost use Rattle.policy.specs.Three.{three};
 ghost use Rattle.bench.specs.Entries.{kin_of};
 ghost use Rattle.bench.specs.Group.{RowsSwept};
 ghost use Rattle.bench.specs.Lead.{leads_seen};
 ghost use Rattle.bench.specs.Mixed.{no_leads, own_step};
-ghost use Rattle.bench.specs.Suite.{suite};
 ghost use Rattle.bench.specs.Words.{lines_words, wide};
 
 use crate::entry::Entry;
 use crate::lead::Leads;
 use crate::owned::step_owned;
-use policy::three::Policies;
-use policy::traits::{Nesting, Policy};
+use policy::suite::Suite;
 
 // Where an access falls at a level: which of how many sets, with which tag, and its kind.
 #[derive(Clone, Copy)]
@@ -24,15 +21,15 @@ pub(crate) struct Place {
 }
 
 // Sweeps the rows of one set, the widest line first, and counts misses; answers the comparisons that are reported.
-pub(crate) fn sweep_rows<A: Nesting, B: Nesting, C: Policy>(
-    policies: &Policies<A, B, C>,
+pub(crate) fn sweep_rows<S: Suite>(
+    policies: &S,
     lines: &mut [Entry],
     words: &mut [u32],
     at: Place,
     leads: &mut Leads,
 ) -> u64
     requires { (lines_words at.sets (wide (kin_of lines.old)) ≤ length words.old) × ((at.set < at.sets) × ((at.kind < 3) × (leads_seen leads.old ≡ no_leads))) }
-    ensures { RowsSwept (own_step (suite (three A.Policy.meaning B.Policy.meaning C.Policy.meaning) A.Nesting.nest B.Nesting.nest)) at.sets at.set at.tag at.kind lines.old words.old lines.new words.new result (leads_seen leads.new) }
+    ensures { RowsSwept (own_step S.suite) at.sets at.set at.tag at.kind lines.old words.old lines.new words.new result (leads_seen leads.new) }
 {
     if lines.is_empty() {
         return 0;

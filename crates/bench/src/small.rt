@@ -1,20 +1,17 @@
 // The calls that take no workspace.
 ghost use Rattle.std.specs.Prelude.{◌≡◌, [], ◌∷◌, Some, None, MatchResult};
-ghost use Rattle.policy.specs.Three.{three};
 ghost use Rattle.geometry.specs.Refusal.{refusal_number};
 ghost use Rattle.bench.specs.Called.{CalledAlone, NewTracks};
 ghost use Rattle.bench.specs.Calls.{frame, off, window, zero};
 ghost use Rattle.bench.specs.Held.{bench_of, state_of};
 ghost use Rattle.bench.specs.State.{new_state};
-ghost use Rattle.bench.specs.Suite.{suite};
 
 use crate::bench::Bench;
 use crate::held::{Held, Tally};
 use crate::table::Table;
 use crate::window::Windows;
 use geometry::refusal::Refusal;
-use policy::three::Policies;
-use policy::traits::{Nesting, Policy};
+use policy::suite::Suite;
 
 // Nothing is counted but frames.
 pub(crate) fn no_counts(frames: u32) -> Tally
@@ -30,11 +27,11 @@ pub(crate) fn no_counts(frames: u32) -> Tally
     }
 }
 
-impl<A: Nesting, B: Nesting, C: Policy> Bench<A, B, C> {
+impl<S: Suite> Bench<S> {
     // A bench without lines. Window 0 holds every address, and the others are off.
-    pub fn new(policies: Policies<A, B, C>) -> Bench<A, B, C>
+    pub fn new(policies: S) -> Bench<S>
         ensures state { state_of result.held ≡ new_state }
-        ensures tracks { NewTracks (suite (three A.Policy.meaning B.Policy.meaning C.Policy.meaning) A.Nesting.nest B.Nesting.nest) (bench_of result.held) }
+        ensures tracks { NewTracks S.suite (bench_of result.held) }
     {
         Bench {
             policies,
@@ -50,7 +47,7 @@ impl<A: Nesting, B: Nesting, C: Policy> Bench<A, B, C> {
 
     // Sets a window, which is then on: it holds the addresses from `first` to the one before `end`.
     pub fn window(&mut self, number: u64, first: u64, end: u64) -> Result<(), Refusal>
-        ensures { MatchResult result (λ _. CalledAlone (suite (three A.Policy.meaning B.Policy.meaning C.Policy.meaning) A.Nesting.nest B.Nesting.nest) (window number first end) (bench_of self.old.held) (bench_of self.new.held) None) (λ e. CalledAlone (suite (three A.Policy.meaning B.Policy.meaning C.Policy.meaning) A.Nesting.nest B.Nesting.nest) (window number first end) (bench_of self.old.held) (bench_of self.new.held) (Some (record { number = refusal_number e; line = 0 }))) }
+        ensures { MatchResult result (λ _. CalledAlone S.suite (window number first end) (bench_of self.old.held) (bench_of self.new.held) None) (λ e. CalledAlone S.suite (window number first end) (bench_of self.old.held) (bench_of self.new.held) (Some (record { number = refusal_number e; line = 0 }))) }
     {
         if number > 7 {
             return Err(Refusal::WindowNumber);
@@ -67,7 +64,7 @@ impl<A: Nesting, B: Nesting, C: Policy> Bench<A, B, C> {
 
     // Puts a window off.
     pub fn off(&mut self, number: u64) -> Result<(), Refusal>
-        ensures { MatchResult result (λ _. CalledAlone (suite (three A.Policy.meaning B.Policy.meaning C.Policy.meaning) A.Nesting.nest B.Nesting.nest) (off number) (bench_of self.old.held) (bench_of self.new.held) None) (λ e. CalledAlone (suite (three A.Policy.meaning B.Policy.meaning C.Policy.meaning) A.Nesting.nest B.Nesting.nest) (off number) (bench_of self.old.held) (bench_of self.new.held) (Some (record { number = refusal_number e; line = 0 }))) }
+        ensures { MatchResult result (λ _. CalledAlone S.suite (off number) (bench_of self.old.held) (bench_of self.new.held) None) (λ e. CalledAlone S.suite (off number) (bench_of self.old.held) (bench_of self.new.held) (Some (record { number = refusal_number e; line = 0 }))) }
     {
         if number > 7 {
             return Err(Refusal::WindowNumber);
@@ -78,7 +75,7 @@ impl<A: Nesting, B: Nesting, C: Policy> Bench<A, B, C> {
 
     // Sets all counts to 0. Rows and frames stay, and the last access is still the last.
     pub fn zero(&mut self)
-        ensures { CalledAlone (suite (three A.Policy.meaning B.Policy.meaning C.Policy.meaning) A.Nesting.nest B.Nesting.nest) zero (bench_of self.old.held) (bench_of self.new.held) None }
+        ensures { CalledAlone S.suite zero (bench_of self.old.held) (bench_of self.new.held) None }
     {
         self.held.misses = [[0; 3]; 64];
         self.held.tally = no_counts(self.held.tally.frames);
@@ -86,7 +83,7 @@ impl<A: Nesting, B: Nesting, C: Policy> Bench<A, B, C> {
 
     // One frame more.
     pub fn frame(&mut self) -> Result<(), Refusal>
-        ensures { MatchResult result (λ _. CalledAlone (suite (three A.Policy.meaning B.Policy.meaning C.Policy.meaning) A.Nesting.nest B.Nesting.nest) frame (bench_of self.old.held) (bench_of self.new.held) None) (λ e. CalledAlone (suite (three A.Policy.meaning B.Policy.meaning C.Policy.meaning) A.Nesting.nest B.Nesting.nest) frame (bench_of self.old.held) (bench_of self.new.held) (Some (record { number = refusal_number e; line = 0 }))) }
+        ensures { MatchResult result (λ _. CalledAlone S.suite frame (bench_of self.old.held) (bench_of self.new.held) None) (λ e. CalledAlone S.suite frame (bench_of self.old.held) (bench_of self.new.held) (Some (record { number = refusal_number e; line = 0 }))) }
     {
         if self.held.tally.frames >= 1_000_000 {
             return Err(Refusal::Frames);

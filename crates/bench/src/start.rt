@@ -1,18 +1,17 @@
 // The words of a table's levels, as an open and a flush write them.
 ghost use Rattle.std.specs.Prelude.{◌≡◌, ◌+◌, ◌-◌, ◌<◌, ◌≤◌, ◌&&◌, ◌++◌, length, drop, replicate};
-ghost use Rattle.policy.specs.Three.{three};
 ghost use Rattle.standalone.specs.Rows.{laid};
 ghost use Rattle.bench.specs.OpenLines.{kins_of};
 ghost use Rattle.bench.specs.Level.{level_words};
 ghost use Rattle.bench.specs.Spans.{FamiliesFit, LevelsFit};
 ghost use Rattle.bench.specs.Start.{any_of, started_level, started_lines};
 ghost use Rattle.bench.specs.Started.{FamiliesStarted, LevelsStarted, new_row};
-ghost use Rattle.bench.specs.Suite.{nesting, suite};
+ghost use Rattle.policy.specs.Suite.{nesting};
 ghost use Rattle.bench.specs.Words.{line_words, lines_words, wide};
 
 use crate::open_line::OpenLine;
-use policy::three::{Member, Policies};
-use policy::traits::{Nesting, Policy};
+use policy::suite::Suite;
+use policy::three::Member;
 
 // Whether a policy nests.
 fn nests(member: Member) -> bool
@@ -44,14 +43,14 @@ fn follows(member: Member, later: &[OpenLine]) -> bool
 }
 
 // Starts one row: a follower's lead word is 1 and its other words are 0; a leader's lead word is 0, and its policy starts the rest.
-fn start_row<A: Nesting, B: Nesting, C: Policy>(
-    policies: &Policies<A, B, C>,
+fn start_row<S: Suite>(
+    policies: &S,
     member: Member,
     follows: bool,
     row: &mut [u32],
 )
     requires { 0 < length row.old }
-    ensures { row.new ≡ new_row (suite (three A.Policy.meaning B.Policy.meaning C.Policy.meaning) A.Nesting.nest B.Nesting.nest) follows member (length row.old - 1) }
+    ensures { row.new ≡ new_row S.suite follows member (length row.old - 1) }
 {
     if follows {
         row.fill(0);
@@ -63,8 +62,8 @@ fn start_row<A: Nesting, B: Nesting, C: Policy>(
 }
 
 // Starts the rows of a line, one for each set.
-fn start_line<A: Nesting, B: Nesting, C: Policy>(
-    policies: &Policies<A, B, C>,
+fn start_line<S: Suite>(
+    policies: &S,
     member: Member,
     follows: bool,
     sets: usize,
@@ -72,7 +71,7 @@ fn start_line<A: Nesting, B: Nesting, C: Policy>(
     words: &mut [u32],
 )
     requires { (ways ≤ 16) × (line_words sets ways ≤ length words.old) }
-    ensures { words.new ≡ laid (replicate sets (new_row (suite (three A.Policy.meaning B.Policy.meaning C.Policy.meaning) A.Nesting.nest B.Nesting.nest) follows member (ways + 1))) ++ drop (line_words sets ways) words.old }
+    ensures { words.new ≡ laid (replicate sets (new_row S.suite follows member (ways + 1))) ++ drop (line_words sets ways) words.old }
 {
     let width = ways + 2;
     for set in 0..sets {
@@ -83,14 +82,14 @@ fn start_line<A: Nesting, B: Nesting, C: Policy>(
 }
 
 // Starts the rows of the wider lines of a level, one line after the other.
-fn start_lines<A: Nesting, B: Nesting, C: Policy>(
-    policies: &Policies<A, B, C>,
+fn start_lines<S: Suite>(
+    policies: &S,
     lines: &[OpenLine],
     sets: usize,
     words: &mut [u32],
 )
     requires { lines_words sets (wide (kins_of lines.now)) ≤ length words.old }
-    ensures { words.new ≡ started_lines (suite (three A.Policy.meaning B.Policy.meaning C.Policy.meaning) A.Nesting.nest B.Nesting.nest) sets (wide (kins_of lines.now)) ++ drop (lines_words sets (wide (kins_of lines.now))) words.old }
+    ensures { words.new ≡ started_lines S.suite sets (wide (kins_of lines.now)) ++ drop (lines_words sets (wide (kins_of lines.now))) words.old }
 {
     if lines.is_empty() {
         return;
@@ -109,14 +108,14 @@ fn start_lines<A: Nesting, B: Nesting, C: Policy>(
 }
 
 // Starts a level: an empty direct-mapped cache, then the rows of its wider lines.
-fn start_level<A: Nesting, B: Nesting, C: Policy>(
-    policies: &Policies<A, B, C>,
+fn start_level<S: Suite>(
+    policies: &S,
     lines: &[OpenLine],
     sets: usize,
     words: &mut [u32],
 )
     requires { level_words sets (kins_of lines.now) ≤ length words.old }
-    ensures { words.new ≡ started_level (suite (three A.Policy.meaning B.Policy.meaning C.Policy.meaning) A.Nesting.nest B.Nesting.nest) (record { sets = sets; lines = kins_of lines.now }) ++ drop (level_words sets (kins_of lines.now)) words.old }
+    ensures { words.new ≡ started_level S.suite (record { sets = sets; lines = kins_of lines.now }) ++ drop (level_words sets (kins_of lines.now)) words.old }
 {
     let direct = 2 * sets;
     words[..direct].fill(0);
@@ -124,13 +123,13 @@ fn start_level<A: Nesting, B: Nesting, C: Policy>(
 }
 
 // Starts the levels of one block size.
-fn start_levels<A: Nesting, B: Nesting, C: Policy>(
-    policies: &Policies<A, B, C>,
+fn start_levels<S: Suite>(
+    policies: &S,
     lines: &[OpenLine],
     words: &mut [u32],
 )
     requires { LevelsFit lines.now (length words.old) }
-    ensures { LevelsStarted (suite (three A.Policy.meaning B.Policy.meaning C.Policy.meaning) A.Nesting.nest B.Nesting.nest) lines.now words.old words.new }
+    ensures { LevelsStarted S.suite lines.now words.old words.new }
 {
     if lines.is_empty() {
         return;
@@ -144,13 +143,13 @@ fn start_levels<A: Nesting, B: Nesting, C: Policy>(
 }
 
 // Starts all levels of a table: nothing is resident.
-pub(crate) fn start_families<A: Nesting, B: Nesting, C: Policy>(
-    policies: &Policies<A, B, C>,
+pub(crate) fn start_families<S: Suite>(
+    policies: &S,
     lines: &[OpenLine],
     words: &mut [u32],
 )
     requires { FamiliesFit lines.now (length words.old) }
-    ensures { FamiliesStarted (suite (three A.Policy.meaning B.Policy.meaning C.Policy.meaning) A.Nesting.nest B.Nesting.nest) lines.now words.old words.new }
+    ensures { FamiliesStarted S.suite lines.now words.old words.new }
 {
     if lines.is_empty() {
         return;

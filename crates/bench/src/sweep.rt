@@ -1,11 +1,9 @@
 // The sweep of one access over the levels of a table.
 ghost use Rattle.std.specs.Prelude.{◌≡◌, ◌^◌, ◌<◌, length};
-ghost use Rattle.policy.specs.Three.{three};
 ghost use Rattle.geometry.specs.Address.{set_of, tag_of};
 ghost use Rattle.bench.specs.Done.{FamiliesDone, LevelsDone};
 ghost use Rattle.bench.specs.Mixed.{own_step};
 ghost use Rattle.bench.specs.Spans.{FamiliesFit, LevelsFit};
-ghost use Rattle.bench.specs.Suite.{suite};
 ghost use Rattle.bench.specs.Sweep.{same_block};
 
 use crate::miss::Misses;
@@ -13,8 +11,7 @@ use crate::open_level::access_level;
 use crate::open_line::OpenLine;
 use crate::rows::Place;
 use geometry::geometry::Geometry;
-use policy::three::Policies;
-use policy::traits::{Nesting, Policy};
+use policy::suite::Suite;
 
 // A cached access: its address and kind, and the address of the cached access before it, if there is one.
 #[derive(Clone, Copy)]
@@ -40,8 +37,8 @@ fn place_of(geometry: &Geometry, address: u32, kind: usize) -> Place
 }
 
 // Visits the levels of one block size until a direct-mapped cache hits; answers the comparisons that are reported.
-fn sweep_levels<A: Nesting, B: Nesting, C: Policy>(
-    policies: &Policies<A, B, C>,
+fn sweep_levels<S: Suite>(
+    policies: &S,
     lines: &[OpenLine],
     misses: &mut [Misses],
     words: &mut [u32],
@@ -49,7 +46,7 @@ fn sweep_levels<A: Nesting, B: Nesting, C: Policy>(
     kind: usize,
 ) -> u64
     requires { (LevelsFit lines.now (length words.old)) × ((length misses.old ≡ length lines.now) × (kind < 3)) }
-    ensures { LevelsDone (own_step (suite (three A.Policy.meaning B.Policy.meaning C.Policy.meaning) A.Nesting.nest B.Nesting.nest)) address kind lines.now misses.old words.old misses.new words.new result }
+    ensures { LevelsDone (own_step S.suite) address kind lines.now misses.old words.old misses.new words.new result }
 {
     if lines.is_empty() {
         return 0;
@@ -91,15 +88,15 @@ fn repeats(geometry: &Geometry, reach: &Reach) -> bool
 
 // Sweeps an access over the levels, by rising block size, until one at which it lies in the block of the last one.
 // Answers the comparisons that are reported.
-pub(crate) fn sweep_families<A: Nesting, B: Nesting, C: Policy>(
-    policies: &Policies<A, B, C>,
+pub(crate) fn sweep_families<S: Suite>(
+    policies: &S,
     lines: &[OpenLine],
     misses: &mut [Misses],
     words: &mut [u32],
     reach: &Reach,
 ) -> u64
     requires { (FamiliesFit lines.now (length words.old)) × ((length misses.old ≡ length lines.now) × (reach.now.kind < 3)) }
-    ensures { FamiliesDone (own_step (suite (three A.Policy.meaning B.Policy.meaning C.Policy.meaning) A.Nesting.nest B.Nesting.nest)) reach.now.last reach.now.address reach.now.kind lines.now misses.old words.old misses.new words.new result }
+    ensures { FamiliesDone (own_step S.suite) reach.now.last reach.now.address reach.now.kind lines.now misses.old words.old misses.new words.new result }
 {
     if lines.is_empty() {
         return 0;

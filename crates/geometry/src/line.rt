@@ -1,13 +1,11 @@
 // A table line, and the questions that it must pass.
 ghost use Rattle.std.specs.Prelude.{◌≡◌, ◌^◌, ◌≤◌, true, false, IfOk, Some, None, MatchOption, MatchResult};
-ghost use Rattle.policy.specs.Three.{three};
 ghost use Rattle.geometry.specs.Line.{GeometryOf, line_questions, power_to};
 ghost use Rattle.geometry.specs.Refusal.{first_no, refusal_number};
 
 use crate::geometry::Geometry;
 use crate::refusal::Refusal;
-use policy::three::Policies;
-use policy::traits::{Nesting, Policy};
+use policy::suite::Suite;
 
 // A line of a table: block size in bytes, number of sets, policy letter, number of ways. Lines are ordered by these in turn.
 // The numbers may be any; `check` tells whether they are allowed.
@@ -34,12 +32,12 @@ fn exponent_of(n: u64, most: u32) -> Option<u32>
 
 impl Line {
     // The geometry of the line, or the first question that it does not pass.
-    pub fn check<A: Nesting, B: Nesting, C: Policy>(
+    pub fn check<S: Suite>(
         &self,
-        policies: &Policies<A, B, C>,
+        policies: &S,
     ) -> Result<Geometry, Refusal>
-        ensures passes { MatchResult result (λ _. first_no (line_questions (three A.Policy.meaning B.Policy.meaning C.Policy.meaning) self.now) ≡ None) (λ e. first_no (line_questions (three A.Policy.meaning B.Policy.meaning C.Policy.meaning) self.now) ≡ Some (refusal_number e)) }
-        ensures geometry { IfOk result (λ g. GeometryOf (three A.Policy.meaning B.Policy.meaning C.Policy.meaning) self.now g) }
+        ensures passes { MatchResult result (λ _. first_no (line_questions S.suite.three self.now) ≡ None) (λ e. first_no (line_questions S.suite.three self.now) ≡ Some (refusal_number e)) }
+        ensures geometry { IfOk result (λ g. GeometryOf S.suite.three self.now g) }
     {
         let member = policies.find(self.letter).ok_or(Refusal::Letter)?;
         let set_bits = exponent_of(self.sets, 14).ok_or(Refusal::Sets)?;

@@ -5,12 +5,14 @@ pub mod Stack
 pub mod Plru
 pub mod Three
 pub mod Standard
+pub mod Suite
 pub mod ListPolicy
 pub mod SearchLemmas
 pub mod Shift
 pub mod Residents
 pub mod StackRow
 pub mod StackLaws
+pub mod SuiteLaws
 pub mod PlruLaws
 pub mod Tree
 pub mod Bits

@@ -6,5 +6,6 @@ pub mod lru;
 pub mod plru;
 pub mod stack;
 pub mod standard;
+pub mod suite;
 pub mod three;
 pub mod traits;

@@ -1,7 +1,9 @@
 // Three policies together: two nesting ones and a further one.
-ghost use Rattle.std.specs.Prelude.{◌≡◌, length};
-ghost use Rattle.policy.specs.Three.{policy_of, three, which};
+ghost use Rattle.policy.specs.Suite.{suite_of};
+ghost use Rattle.policy.specs.SuiteLaws.{lawful};
+ghost use Rattle.policy.specs.Three.{three};
 
+use crate::suite::Suite;
 use crate::traits::{Nesting, Policy};
 
 // Which of the three.
@@ -20,11 +22,12 @@ pub struct Policies<A: Nesting, B: Nesting, C: Policy> {
     pub further: C,
 }
 
-impl<A: Nesting, B: Nesting, C: Policy> Policies<A, B, C> {
-    // The first of the three that has the letter.
-    pub fn find(&self, letter: u8) -> Option<Member>
-        ensures { result ≡ which (three A.Policy.meaning B.Policy.meaning C.Policy.meaning) letter }
-    {
+impl<A: Nesting, B: Nesting, C: Policy> Suite for Policies<A, B, C> {
+    ghost suite = { suite_of (three A.Policy.meaning B.Policy.meaning C.Policy.meaning) A.Nesting.nest B.Nesting.nest };
+
+    ghost lawful = { lawful _ A.Policy.lawful B.Policy.lawful C.Policy.lawful A.Nesting.nests B.Nesting.nests };
+
+    fn find(&self, letter: u8) -> Option<Member> {
         if letter == self.first.letter() {
             Some(Member::First)
         } else if letter == self.second.letter() {
@@ -36,10 +39,7 @@ impl<A: Nesting, B: Nesting, C: Policy> Policies<A, B, C> {
         }
     }
 
-    // Whether that policy takes this number of ways.
-    pub fn takes(&self, member: Member, ways: u64) -> bool
-        ensures { result ≡ (policy_of (three A.Policy.meaning B.Policy.meaning C.Policy.meaning) member).takes ways }
-    {
+    fn takes(&self, member: Member, ways: u64) -> bool {
         match member {
             Member::First => self.first.takes(ways),
             Member::Second => self.second.takes(ways),
@@ -47,10 +47,7 @@ impl<A: Nesting, B: Nesting, C: Policy> Policies<A, B, C> {
         }
     }
 
-    // Makes the row one of that policy without residents.
-    pub fn start(&self, member: Member, row: &mut [u32])
-        ensures { row.new ≡ (policy_of (three A.Policy.meaning B.Policy.meaning C.Policy.meaning) member).start (length row.old) }
-    {
+    fn start(&self, member: Member, row: &mut [u32]) {
         match member {
             Member::First => self.first.start(row),
             Member::Second => self.second.start(row),
@@ -58,16 +55,25 @@ impl<A: Nesting, B: Nesting, C: Policy> Policies<A, B, C> {
         }
     }
 
-    // Touches a row of that policy with the tag: whether it hit, and the comparisons.
-    pub fn touch(&self, member: Member, row: &mut [u32], tag: u32) -> (bool, usize)
-        ensures hit { result.0 ≡ ((policy_of (three A.Policy.meaning B.Policy.meaning C.Policy.meaning) member).touch row.old tag).hit }
-        ensures comparisons { result.1 ≡ ((policy_of (three A.Policy.meaning B.Policy.meaning C.Policy.meaning) member).touch row.old tag).comparisons }
-        ensures row { row.new ≡ ((policy_of (three A.Policy.meaning B.Policy.meaning C.Policy.meaning) member).touch row.old tag).row }
-    {
+    fn touch(&self, member: Member, row: &mut [u32], tag: u32) -> (bool, usize) {
         match member {
             Member::First => self.first.touch(row, tag),
             Member::Second => self.second.touch(row, tag),
             Member::Further => self.further.touch(row, tag),
+        }
+    }
+
+    fn keeps_nesting(&self, member: Member) -> bool {
+        match member {
+            Member::First => self.first.keeps_nesting(),
+            Member::Second | Member::Further => self.second.keeps_nesting(),
+        }
+    }
+
+    fn truncate(&self, member: Member, wide: &[u32], narrow: &mut [u32]) {
+        match member {
+            Member::First => self.first.truncate(wide, narrow),
+            Member::Second | Member::Further => self.second.truncate(wide, narrow),
         }
     }
 }

@@ -4,3 +4,4 @@ pub mod Cache
 pub mod Rows
 pub mod Run
 pub mod Known
+pub mod Checked

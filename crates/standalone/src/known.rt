@@ -1,8 +1,19 @@
 // Traces whose counts are known.
 ghost use Rattle.std.specs.Prelude.{◌≡◌};
-ghost use Rattle.standalone.specs.Known.{KnownCounts, six_reads};
+ghost use Rattle.standalone.specs.Known.{KnownCounts, read, six_reads};
 
 use crate::access::Access;
+use geometry::kind::AccessKind;
+
+// A read of an address.
+fn read(address: u64) -> Access
+    ensures { result ≡ read address }
+{
+    Access {
+        kind: AccessKind::Read as u8,
+        address,
+    }
+}
 
 // Six reads on which FIFO of 2 and of 3 ways hit once each, at another access, and LRU of 3 ways hits twice.
 pub fn six_reads() -> [Access; 6]
@@ -10,29 +21,11 @@ pub fn six_reads() -> [Access; 6]
     ensures known { KnownCounts }
 {
     [
-        Access {
-            kind: 1,
-            address: 0x1d0,
-        },
-        Access {
-            kind: 1,
-            address: 0x210,
-        },
-        Access {
-            kind: 1,
-            address: 0x250,
-        },
-        Access {
-            kind: 1,
-            address: 0x1d0,
-        },
-        Access {
-            kind: 1,
-            address: 0x190,
-        },
-        Access {
-            kind: 1,
-            address: 0x1d0,
-        },
+        read(0x1d0),
+        read(0x210),
+        read(0x250),
+        read(0x1d0),
+        read(0x190),
+        read(0x1d0),
     ]
 }

@@ -10,7 +10,7 @@ use Rattle.bench.proofs.lines.check_line.Goals as goal
 -- a line that is refused
 pub returns-in_err-geometry : goal.returns-in_err-geometry
 returns-in_err-geometry g c =
-    let p = three g.A.Policy.meaning g.B.Policy.meaning g.C.Policy.meaning in
+    let p = g.S.Suite.suite.three in
     let out = err_from_is_err_and c.from_residual.result c.from_residual.ensures.1 in
     let line = c.args.line.now in
     record {

@@ -11,7 +11,7 @@ use Rattle.bench.proofs.lines.read_lines.Goals as goal
 
 pub returns-in-Err : goal.returns-in-Err
 returns-in-Err g c =
-    let p = three g.A.Policy.meaning g.B.Policy.meaning g.C.Policy.meaning in
+    let p = g.S.Suite.suite.three in
     record {
       passes = sym c.loop-k.invariant.0 ∙ line_stops p c.loop-k.last c.args.lines.now c.loop-k.k _ c.loop-k-test.true (refusal_number c.in-Err.refusal) c.in-Err.ensures.passes;
       configs = tt;
@@ -19,7 +19,7 @@ returns-in-Err g c =
 
 pub loop-k-preserved : goal.loop-k-preserved
 loop-k-preserved g c =
-    let p = three g.A.Policy.meaning g.B.Policy.meaning g.C.Policy.meaning in
+    let p = g.S.Suite.suite.three in
     let lines = c.args.lines.now in
     let es = c.loop-k.entries in
     let k = c.loop-k.k in
@@ -35,7 +35,7 @@ loop-k-preserved g c =
 
 pub returns : goal.returns
 returns g c =
-    let p = three g.A.Policy.meaning g.B.Policy.meaning g.C.Policy.meaning in
+    let p = g.S.Suite.suite.three in
     let lines = c.args.lines.now in
     let es = c.loop-k.entries in
     let done : c.loop-k.k ≡ length lines = omega (arith, c.loop-k-test.false, c.loop-k.auto.k-end) in

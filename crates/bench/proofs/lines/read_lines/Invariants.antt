@@ -7,5 +7,5 @@ use Rattle.bench.proofs.lines.read_lines.Given as goal
 
 abbrev pub invariant-loop-k : goal.invariant-loop-k
 invariant-loop-k g l =
-    (lines_refusal (three g.A.Policy.meaning g.B.Policy.meaning g.C.Policy.meaning) (l.k + 1) l.last (drop l.k l.lines) ≡ lines_refusal (three g.A.Policy.meaning g.B.Policy.meaning g.C.Policy.meaning) 1 None l.lines)
-    × (configs (take l.k l.entries) ≡ map (config_of (three g.A.Policy.meaning g.B.Policy.meaning g.C.Policy.meaning)) (take l.k l.lines))
+    (lines_refusal g.S.Suite.suite.three (l.k + 1) l.last (drop l.k l.lines) ≡ lines_refusal g.S.Suite.suite.three 1 None l.lines)
+    × (configs (take l.k l.entries) ≡ map (config_of g.S.Suite.suite.three) (take l.k l.lines))

@@ -3,16 +3,16 @@ use Rattle.policy.specs.Three.{three}
 use Rattle.bench.specs.Held.{bench_of}
 use Rattle.bench.specs.Spoken.{answer_of, do_of, spoken}
 use Rattle.bench.specs.State.{bench_answers, bench_run, new_bench}
-use Rattle.bench.specs.Suite.{suite}
+use Rattle.policy.specs.Suite.{suite}
 use Rattle.bench.specs.declared.call.Call.TheVariants.{Flush}
 use Rattle.bench.proofs.CallByCall.{answers_step, both_lists, rest_stays, run_step}
-use Rattle.bench.proofs.AllLawful.{lawful}
+use Rattle.policy.specs.SuiteLaws.{lawful}
 use Rattle.bench.proofs.TrackRun.{one_pass}
 use Rattle.bench.proofs.replay.replay.Goals as goal
 
 pub loop-k-preserved : goal.loop-k-preserved
 loop-k-preserved g c =
-    let s = suite (three g.A.Policy.meaning g.B.Policy.meaning g.C.Policy.meaning) g.A.Nesting.nest g.B.Nesting.nest in
+    let s = g.S.Suite.suite in
     let calls = c.args.calls.now in
     let k = c.loop-k.k in
     let start = new_bench c.args.workspace.now in
@@ -26,8 +26,8 @@ loop-k-preserved g c =
 
 pub returns : goal.returns
 returns g c =
-    let s = suite (three g.A.Policy.meaning g.B.Policy.meaning g.C.Policy.meaning) g.A.Nesting.nest g.B.Nesting.nest in
-    let L = lawful s g.met.A.Policy.lawful g.met.B.Policy.lawful g.met.C.Policy.lawful g.met.A.Nesting.nests g.met.B.Nesting.nests in
+    let s = g.S.Suite.suite in
+    let L = g.met.S.Suite.lawful in
     let calls = c.args.calls.now in
     let xs = c.args.answers.now in
     let k = c.loop-k.k in

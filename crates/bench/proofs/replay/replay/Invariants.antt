@@ -3,11 +3,11 @@ use Rattle.policy.specs.Three.{three}
 use Rattle.bench.specs.Held.{bench_of}
 use Rattle.bench.specs.Spoken.{answer_of, spoken}
 use Rattle.bench.specs.State.{bench_answers, bench_run, new_bench}
-use Rattle.bench.specs.Suite.{suite}
+use Rattle.policy.specs.Suite.{suite}
 use Rattle.bench.proofs.replay.replay.Given as goal
 
 abbrev pub invariant-loop-k : goal.invariant-loop-k
 invariant-loop-k g l =
-    let s = suite (three g.A.Policy.meaning g.B.Policy.meaning g.C.Policy.meaning) g.A.Nesting.nest g.B.Nesting.nest in
+    let s = g.S.Suite.suite in
     (bench_of l.bench.held l.workspace ≡ bench_run s (spoken l.k l.calls) (new_bench l.initial.workspace))
     × (map answer_of l.answers ≡ bench_answers s (spoken l.k l.calls) (new_bench l.initial.workspace) ++ map answer_of (drop l.k l.initial.answers))

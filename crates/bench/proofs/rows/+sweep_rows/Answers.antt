@@ -5,7 +5,7 @@ use Rattle.bench.specs.Entries.{kin_of, counted}
 use Rattle.policy.specs.Three.{three}
 use Rattle.bench.specs.Group.{RowsSwept}
 use Rattle.bench.specs.Mixed.{own_step}
-use Rattle.bench.specs.Suite.{suite}
+use Rattle.policy.specs.Suite.{suite}
 use Rattle.bench.specs.Lead.{leads_seen}
 use Rattle.bench.specs.Words.{lines_words, line_words, wide}
 use Rattle.bench.proofs.GroupRows.{rows_none, rows_more, words_first, words_single, rows_single, lines_after, first_after, rows_as}
@@ -13,7 +13,7 @@ use Rattle.bench.proofs.SetRows.{row_part, row_put}
 use Rattle.bench.proofs.rows.+sweep_rows.Goals as goal
 
 pub returns-then-is_empty : goal.returns-then-is_empty
-returns-then-is_empty g t c = rows_none (own_step (suite (three g.A.Policy.meaning g.B.Policy.meaning g.C.Policy.meaning) g.A.Nesting.nest g.B.Nesting.nest)) _ _ _ _ c.args.lines.now c.args.words.now _ (search rules) (search rules)
+returns-then-is_empty g t c = rows_none (own_step g.S.Suite.suite) _ _ _ _ c.args.lines.now c.args.words.now _ (search rules) (search rules)
 
 pub overflow_mul-size : goal.overflow_mul-size
 overflow_mul-size g t c =
@@ -53,7 +53,7 @@ slice_bounds-step_owned-end g t c =
 
 pub returns : goal.returns
 returns g t c =
-    let f = own_step (suite (three g.A.Policy.meaning g.B.Policy.meaning g.C.Policy.meaning) g.A.Nesting.nest g.B.Nesting.nest) in
+    let f = own_step g.S.Suite.suite in
     let s = c.args.at.sets in
     let i = c.args.at.set in
     let es = c.args.lines.now in
@@ -93,7 +93,7 @@ sweep_rows-compared-requires g t c κs within =
 
 pub returns-then-ways-le1 : goal.returns-then-ways-le1
 returns-then-ways-le1 g t c =
-    let f = own_step (suite (three g.A.Policy.meaning g.B.Policy.meaning g.C.Policy.meaning) g.A.Nesting.nest g.B.Nesting.nest) in
+    let f = own_step g.S.Suite.suite in
     let s = c.args.at.sets in
     let i = c.args.at.set in
     let es = c.args.lines.now in

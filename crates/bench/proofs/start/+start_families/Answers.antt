@@ -2,14 +2,14 @@ use Rattle.std.proofs.Common.{◌<◌, length, drop, sym, ◌∙◌, subst₂, a
 use Rattle.std.proofs.lemmas.List.{length-drop, length-take-le, take_rest}
 use Rattle.policy.specs.Three.{three}
 use Rattle.bench.specs.Started.{FamiliesStarted}
-use Rattle.bench.specs.Suite.{suite}
+use Rattle.policy.specs.Suite.{suite}
 use Rattle.bench.proofs.FamiliesSwept.{first_family, later_fit, levels_fit, within}
 use Rattle.bench.proofs.LevelsStarted.{families_more, families_none}
 use Rattle.bench.proofs.TwoParts.{first_within, others_are, others_put}
 use Rattle.bench.proofs.start.+start_families.Goals as goal
 
 pub returns-then-is_empty : goal.returns-then-is_empty
-returns-then-is_empty g t c = families_none (suite (three g.A.Policy.meaning g.B.Policy.meaning g.C.Policy.meaning) g.A.Nesting.nest g.B.Nesting.nest) c.args.lines.now c.args.words.now (search rules)
+returns-then-is_empty g t c = families_none g.S.Suite.suite c.args.lines.now c.args.words.now (search rules)
 
 pub slice_bounds-start_levels-end : goal.slice_bounds-start_levels-end
 slice_bounds-start_levels-end g t c = sym (length-take-le _ c.args.lines.now (within c.args.lines.now c.index-lines-0.result c.index-lines-0.is (length c.args.words.now) (search rules) c.requires).lines)
@@ -65,7 +65,7 @@ start_families-requires g t c κs below =
 
 pub returns : goal.returns
 returns g t c fs sp =
-    let s = suite (three g.A.Policy.meaning g.B.Policy.meaning g.C.Policy.meaning) g.A.Nesting.nest g.B.Nesting.nest in
+    let s = g.S.Suite.suite in
     let es = c.args.lines.now in
     let ws = c.args.words.now in
     let x = c.index-lines-0.result in

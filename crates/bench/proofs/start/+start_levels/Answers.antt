@@ -4,14 +4,14 @@ use Rattle.policy.specs.Three.{three}
 use Rattle.bench.specs.OpenLines.{kins_of}
 use Rattle.bench.specs.Level.{level_words}
 use Rattle.bench.specs.Started.{LevelsStarted}
-use Rattle.bench.specs.Suite.{suite}
+use Rattle.policy.specs.Suite.{suite}
 use Rattle.bench.proofs.LevelsStarted.{levels_more, levels_none}
 use Rattle.bench.proofs.LevelsSwept.{first_level, later_fit, visit_room, within}
 use Rattle.bench.proofs.TwoParts.{first_within, others_are, others_put}
 use Rattle.bench.proofs.start.+start_levels.Goals as goal
 
 pub returns-then-is_empty : goal.returns-then-is_empty
-returns-then-is_empty g t c = levels_none (suite (three g.A.Policy.meaning g.B.Policy.meaning g.C.Policy.meaning) g.A.Nesting.nest g.B.Nesting.nest) c.args.lines.now c.args.words.now (search rules)
+returns-then-is_empty g t c = levels_none g.S.Suite.suite c.args.lines.now c.args.words.now (search rules)
 
 pub slice_bounds-start_level-end : goal.slice_bounds-start_level-end
 slice_bounds-start_level-end g t c = sym (length-take-le _ c.args.lines.now (within c.args.lines.now c.index-lines-0.result c.index-lines-0.is (length c.args.words.now) (search rules) c.requires).lines)
@@ -71,7 +71,7 @@ start_levels-requires g t c κs below =
 
 pub returns : goal.returns
 returns g t c b ls sp =
-    let s = suite (three g.A.Policy.meaning g.B.Policy.meaning g.C.Policy.meaning) g.A.Nesting.nest g.B.Nesting.nest in
+    let s = g.S.Suite.suite in
     let es = c.args.lines.now in
     let ws = c.args.words.now in
     let x = c.index-lines-0.result in

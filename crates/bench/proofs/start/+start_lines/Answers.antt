@@ -3,7 +3,7 @@ use Rattle.std.proofs.lemmas.List.{length-drop, take_rest}
 use Rattle.policy.specs.Three.{three}
 use Rattle.bench.specs.OpenLines.{kins_of}
 use Rattle.bench.specs.Start.{any_of, started_lines}
-use Rattle.bench.specs.Suite.{nesting, suite}
+use Rattle.policy.specs.Suite.{nesting, suite}
 use Rattle.bench.specs.Words.{lines_words, wide}
 use Rattle.bench.proofs.AnyOf.{wide_next, wide_past}
 use Rattle.bench.proofs.LinesStarted.{lines_more, lines_none, lines_single}
@@ -11,7 +11,7 @@ use Rattle.bench.proofs.TwoParts.{others_are, others_put}
 use Rattle.bench.proofs.start.+start_lines.Goals as goal
 
 pub returns-then-is_empty : goal.returns-then-is_empty
-returns-then-is_empty g t c = lines_none (suite (three g.A.Policy.meaning g.B.Policy.meaning g.C.Policy.meaning) g.A.Nesting.nest g.B.Nesting.nest) c.args.sets c.args.words.now c.args.lines.now (search rules)
+returns-then-is_empty g t c = lines_none g.S.Suite.suite c.args.sets c.args.words.now c.args.lines.now (search rules)
 
 pub start_lines-requires : goal.start_lines-requires
 start_lines-requires g t c κs within =
@@ -24,7 +24,7 @@ start_lines-requires g t c κs within =
 
 pub returns-then-ways-le1 : goal.returns-then-ways-le1
 returns-then-ways-le1 g t c =
-    lines_single (suite (three g.A.Policy.meaning g.B.Policy.meaning g.C.Policy.meaning) g.A.Nesting.nest g.B.Nesting.nest) c.args.sets c.args.words.now c.args.lines.now c.index-lines-0.result (search rules) c.index-lines-0.is
+    lines_single g.S.Suite.suite c.args.sets c.args.words.now c.args.lines.now c.index-lines-0.result (search rules) c.index-lines-0.is
     c.start_lines.new.words c.if-ways-le1.true c.start_lines.ensures
 
 pub start_lines-requires-2 : goal.start_lines-requires-2
@@ -44,7 +44,7 @@ start_lines-requires-2 g t c κs within =
 
 pub returns : goal.returns
 returns g t c =
-    let s = suite (three g.A.Policy.meaning g.B.Policy.meaning g.C.Policy.meaning) g.A.Nesting.nest g.B.Nesting.nest in
+    let s = g.S.Suite.suite in
     let es = c.args.lines.now in
     let ws = c.args.words.now in
     let x = c.index-lines-0.result in

@@ -2,7 +2,7 @@ use Rattle.std.proofs.Common.{◌≡◌, ◌*◌, ◌≤◌, ◌++◌, length, d
 use Rattle.policy.specs.Three.{three}
 use Rattle.bench.specs.OpenLines.{kins_of}
 use Rattle.bench.specs.Start.{started_lines}
-use Rattle.bench.specs.Suite.{suite}
+use Rattle.policy.specs.Suite.{suite}
 use Rattle.bench.specs.Words.{lines_words, wide}
 use Rattle.bench.proofs.LinesStarted.{zeros_then}
 use Rattle.bench.proofs.TwoParts.{others_are, others_put}
@@ -10,7 +10,7 @@ use Rattle.bench.proofs.start.start_level.Goals as goal
 
 pub returns : goal.returns
 returns g c =
-    let s = suite (three g.A.Policy.meaning g.B.Policy.meaning g.C.Policy.meaning) g.A.Nesting.nest g.B.Nesting.nest in
+    let s = g.S.Suite.suite in
     let ws = c.args.words.now in
     let n = 2 * c.args.sets in
     let le : n ≤ length ws = search rules in

@@ -3,7 +3,7 @@ use Rattle.std.proofs.lemmas.List.{length-take, length-drop}
 use Rattle.policy.specs.Three.{three}
 use Rattle.standalone.proofs.Laid.{row_within, start_step}
 use Rattle.bench.specs.Started.{new_row}
-use Rattle.bench.specs.Suite.{suite}
+use Rattle.policy.specs.Suite.{suite}
 use Rattle.bench.proofs.start.start_line.Goals as goal
 
 pub offset_bounds-words-from : goal.offset_bounds-words-from
@@ -18,7 +18,7 @@ slice_bounds-start_row-end g c =
 
 pub loop-set-preserved : goal.loop-set-preserved
 loop-set-preserved g c =
-    let s = suite (three g.A.Policy.meaning g.B.Policy.meaning g.C.Policy.meaning) g.A.Nesting.nest g.B.Nesting.nest in
+    let s = g.S.Suite.suite in
     let w = c.args.ways + 2 in
     let at = c.loop-set.set * w in
     let k : at + w - at ≡ w = omega arith in

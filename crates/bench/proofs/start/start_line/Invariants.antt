@@ -2,12 +2,12 @@ use Rattle.std.proofs.Common.{◌≡◌, ◌+◌, ◌++◌, drop, replicate}
 use Rattle.policy.specs.Three.{three}
 use Rattle.standalone.specs.Rows.{laid}
 use Rattle.bench.specs.Started.{new_row}
-use Rattle.bench.specs.Suite.{suite}
+use Rattle.policy.specs.Suite.{suite}
 use Rattle.bench.specs.Words.{line_words}
 use Rattle.bench.proofs.start.start_line.Given as goal
 
 -- the rows of the sets so far are started
 abbrev pub invariant-loop-set : goal.invariant-loop-set
 invariant-loop-set g l =
-    let s = suite (three g.A.Policy.meaning g.B.Policy.meaning g.C.Policy.meaning) g.A.Nesting.nest g.B.Nesting.nest in
+    let s = g.S.Suite.suite in
     l.words ≡ laid (replicate l.set (new_row s l.follows l.member (l.ways + 1))) ++ drop (line_words l.set l.ways) l.initial.words

@@ -1,15 +1,15 @@
 use Rattle.std.proofs.Common.{rules}
 use Rattle.policy.specs.Three.{three}
-use Rattle.bench.specs.Suite.{suite}
+use Rattle.policy.specs.Suite.{suite}
 use Rattle.bench.proofs.StartedRows.{row_follows, row_leads}
 use Rattle.bench.proofs.start.start_row.Goals as goal
 
 pub returns-then-follows : goal.returns-then-follows
 returns-then-follows g c =
-    let s = suite (three g.A.Policy.meaning g.B.Policy.meaning g.C.Policy.meaning) g.A.Nesting.nest g.B.Nesting.nest in
+    let s = g.S.Suite.suite in
     row_follows s c.args.follows c.args.member c.args.row.now c.fill.new.self c.requires c.if-follows.true (search rules)
 
 pub returns-else-follows : goal.returns-else-follows
 returns-else-follows g c =
-    let s = suite (three g.A.Policy.meaning g.B.Policy.meaning g.C.Policy.meaning) g.A.Nesting.nest g.B.Nesting.nest in
+    let s = g.S.Suite.suite in
     row_leads s c.args.follows c.args.member c.args.row.now c.start.new.row c.requires c.if-follows.false c.start.ensures

@@ -2,7 +2,7 @@ use Rattle.std.proofs.Common.{◌≡◌, ◌-◌, ◌<◌, ◌≤◌, ◌++◌, 
 use Rattle.std.proofs.lemmas.List.{length-drop, length-take, length-take-le, take_rest}
 use Rattle.policy.specs.Three.{three}
 use Rattle.bench.specs.Mixed.{own_step}
-use Rattle.bench.specs.Suite.{suite}
+use Rattle.policy.specs.Suite.{suite}
 use Rattle.bench.proofs.DoneParts.{done_same}
 use Rattle.bench.proofs.TwoParts.{first_within, others_are, others_put}
 use Rattle.bench.specs.Done.{FamiliesDone}
@@ -10,12 +10,12 @@ use Rattle.bench.proofs.FamiliesSwept.{families_go, families_stop, first_family,
 use Rattle.bench.proofs.sweep.+sweep_families.Goals as goal
 
 pub returns-then-is_empty : goal.returns-then-is_empty
-returns-then-is_empty g t c = none_swept (own_step (suite (three g.A.Policy.meaning g.B.Policy.meaning g.C.Policy.meaning) g.A.Nesting.nest g.B.Nesting.nest)) c.args.reach.now.last c.args.reach.now.address c.args.reach.now.kind c.args.lines.now c.args.misses.now c.args.words.now (search rules)
+returns-then-is_empty g t c = none_swept (own_step g.S.Suite.suite) c.args.reach.now.last c.args.reach.now.address c.args.reach.now.kind c.args.lines.now c.args.misses.now c.args.words.now (search rules)
 
 pub returns-then-repeats : goal.returns-then-repeats
 returns-then-repeats g t c fs sp =
     let F = first_family fs c.args.lines.now c.index-lines-0.result c.index-lines-0.is (search rules) sp in
-    families_stop (own_step (suite (three g.A.Policy.meaning g.B.Policy.meaning g.C.Policy.meaning) g.A.Nesting.nest g.B.Nesting.nest)) c.args.reach.now.last c.args.reach.now.address c.args.reach.now.kind c.args.lines.now F c.args.misses.now c.requires.1.0 c.args.words.now (sym c.repeats.ensures ∙ c.if-repeats.true)
+    families_stop (own_step g.S.Suite.suite) c.args.reach.now.last c.args.reach.now.address c.args.reach.now.kind c.args.lines.now F c.args.misses.now c.requires.1.0 c.args.words.now (sym c.repeats.ensures ∙ c.if-repeats.true)
 
 pub slice_bounds-sweep_levels-end : goal.slice_bounds-sweep_levels-end
 slice_bounds-sweep_levels-end g t c = sym (length-take-le _ c.args.lines.now (within c.args.lines.now c.index-lines-0.result c.index-lines-0.is (length c.args.words.now) (search rules) c.requires.0).lines)
@@ -102,7 +102,7 @@ sweep_levels-here-requires g t c =
 
 pub returns : goal.returns
 returns g t c fs sp =
-    let f = own_step (suite (three g.A.Policy.meaning g.B.Policy.meaning g.C.Policy.meaning) g.A.Nesting.nest g.B.Nesting.nest) in
+    let f = own_step g.S.Suite.suite in
     let x = c.index-lines-0.result in
     let es = c.args.lines.now in
     let ms = c.args.misses.now in

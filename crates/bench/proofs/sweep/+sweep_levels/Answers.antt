@@ -2,7 +2,7 @@ use Rattle.std.proofs.Common.{◌≡◌, ◌-◌, ◌^◌, ◌<◌, ◌≤◌, �
 use Rattle.std.proofs.lemmas.List.{length-drop, length-take, length-take-le, take_rest}
 use Rattle.policy.specs.Three.{three}
 use Rattle.bench.specs.Mixed.{own_step}
-use Rattle.bench.specs.Suite.{suite}
+use Rattle.policy.specs.Suite.{suite}
 use Rattle.bench.proofs.DoneParts.{done_same}
 use Rattle.bench.proofs.TwoParts.{first_within, others_are, others_put}
 use Rattle.bench.specs.Done.{LevelsDone}
@@ -13,7 +13,7 @@ use Rattle.bench.proofs.LineKept.{set_low}
 use Rattle.bench.proofs.sweep.+sweep_levels.Goals as goal
 
 pub returns-then-is_empty : goal.returns-then-is_empty
-returns-then-is_empty g t c = none_swept (own_step (suite (three g.A.Policy.meaning g.B.Policy.meaning g.C.Policy.meaning) g.A.Nesting.nest g.B.Nesting.nest)) c.args.address c.args.kind c.args.lines.now c.args.misses.now c.args.words.now (search rules)
+returns-then-is_empty g t c = none_swept (own_step g.S.Suite.suite) c.args.address c.args.kind c.args.lines.now c.args.misses.now c.args.words.now (search rules)
 
 pub slice_bounds-access_level-end : goal.slice_bounds-access_level-end
 slice_bounds-access_level-end g t c = sym (length-take-le _ c.args.lines.now (within c.args.lines.now c.index-lines-0.result c.index-lines-0.is (length c.args.words.now) (search rules) c.requires.0).lines)
@@ -111,7 +111,7 @@ access_level-hit-requires g t c =
 
 pub returns-then-hit : goal.returns-then-hit
 returns-then-hit g t c b ls sp =
-    let f = own_step (suite (three g.A.Policy.meaning g.B.Policy.meaning g.C.Policy.meaning) g.A.Nesting.nest g.B.Nesting.nest) in
+    let f = own_step g.S.Suite.suite in
     let x = c.index-lines-0.result in
     let es = c.args.lines.now in
     let ms = c.args.misses.now in
@@ -122,7 +122,7 @@ returns-then-hit g t c b ls sp =
 
 pub returns : goal.returns
 returns g t c b ls sp =
-    let f = own_step (suite (three g.A.Policy.meaning g.B.Policy.meaning g.C.Policy.meaning) g.A.Nesting.nest g.B.Nesting.nest) in
+    let f = own_step g.S.Suite.suite in
     let x = c.index-lines-0.result in
     let es = c.args.lines.now in
     let ms = c.args.misses.now in

@@ -1,6 +1,6 @@
 use Rattle.std.proofs.Common.{◌≡◌, ◌+◌, ◌-◌, ◌*◌, ◌^◌, ◌≤◌, ◌++◌, length, take, drop, replicate, sym, ap, ◌∙◌, zero-mul, arith, rules}
 use Rattle.std.proofs.lemmas.List.{length-take, length-drop}
-use Rattle.policy.specs.Three.{three, policy_of}
+use Rattle.policy.specs.Three.{policy_of}
 use Rattle.standalone.specs.Rows.{laid}
 use Rattle.standalone.proofs.Laid.{row_within, start_step}
 use Rattle.standalone.proofs.rows.start_rows.Goals as goal
@@ -15,7 +15,7 @@ loop-set-init g c = ap (λ n. drop n c.args.memory.now) (sym (zero-mul (c.args.g
 
 pub loop-set-preserved : goal.loop-set-preserved
 loop-set-preserved g c =
-    let m = policy_of (three g.A.Policy.meaning g.B.Policy.meaning g.C.Policy.meaning) c.args.geometry.now.member in
+    let m = policy_of g.S.Suite.suite.three c.args.geometry.now.member in
     let w = c.args.geometry.now.ways + 1 in
     let at = c.loop-set.set * w in
     let k : at + w - at ≡ w = omega arith in
@@ -26,7 +26,7 @@ loop-set-preserved g c =
 
 pub returns : goal.returns
 returns g c =
-    let m = policy_of (three g.A.Policy.meaning g.B.Policy.meaning g.C.Policy.meaning) c.args.geometry.now.member in
+    let m = policy_of g.S.Suite.suite.three c.args.geometry.now.member in
     let w = c.args.geometry.now.ways + 1 in
     let all : c.loop-set.set ≡ 2 ^ c.args.geometry.now.set_bits = search rules in
     c.loop-set.invariant ∙ ap (λ n. laid (replicate n (m.start w)) ++ drop (n * w) c.args.memory.now) all

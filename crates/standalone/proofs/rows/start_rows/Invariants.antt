@@ -1,10 +1,10 @@
 use Rattle.std.proofs.Common.{◌≡◌, ◌+◌, ◌*◌, ◌++◌, drop, replicate}
-use Rattle.policy.specs.Three.{three, policy_of}
+use Rattle.policy.specs.Three.{policy_of}
 use Rattle.standalone.specs.Rows.{laid}
 use Rattle.standalone.proofs.rows.start_rows.Given as goal
 
 -- the rows of the sets so far are started
 abbrev pub invariant-loop-set : goal.invariant-loop-set
 invariant-loop-set g l =
-    let m = policy_of (three g.A.Policy.meaning g.B.Policy.meaning g.C.Policy.meaning) l.member in
+    let m = policy_of g.S.Suite.suite.three l.member in
     l.memory ≡ laid (replicate l.set (m.start (l.geometry.ways + 1))) ++ drop (l.set * (l.geometry.ways + 1)) l.initial.memory

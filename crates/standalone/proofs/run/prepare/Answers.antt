@@ -1,7 +1,6 @@
 use Rattle.std.proofs.Common.{◌≤◌, leb, ◌∷◌, length, ◌∙◌, arith}
 use Rattle.std.proofs.lemmas.Result.{err_from_is_err_and}
 use Rattle.std.proofs.lemmas.Bool.{le-leb}
-use Rattle.policy.specs.Three.{three}
 use Rattle.geometry.specs.Refusal.{ask, refusal_number}
 use Rattle.geometry.specs.Line.{line_questions}
 use Rattle.geometry.proofs.Asked.{after_none, after_some, passes}
@@ -12,7 +11,7 @@ use Rattle.standalone.proofs.run.prepare.Goals as goal
 
 pub returns : goal.returns
 returns g c =
-    let p = three g.A.Policy.meaning g.B.Policy.meaning g.C.Policy.meaning in
+    let p = g.S.Suite.suite.three in
     let line = c.args.line.now in
     let xs = c.args.accesses.now in
     let checked = c.in_ok-geometry.ensures in
@@ -33,7 +32,7 @@ returns g c =
 -- a line that is refused
 pub returns-in_err-geometry : goal.returns-in_err-geometry
 returns-in_err-geometry g c =
-    let p = three g.A.Policy.meaning g.B.Policy.meaning g.C.Policy.meaning in
+    let p = g.S.Suite.suite.three in
     let out = err_from_is_err_and c.from_residual.result c.from_residual.ensures.1 in
     let xs = c.args.accesses.now in
     let line = c.args.line.now in

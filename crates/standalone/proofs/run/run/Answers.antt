@@ -1,14 +1,13 @@
 use Rattle.std.proofs.Common.{◌^◌, arith, rules}
-use Rattle.policy.specs.Three.{three, policy_of}
-use Rattle.policy.proofs.Lawful.{lawful_of}
+use Rattle.policy.specs.Three.{policy_of}
 use Rattle.standalone.proofs.Runs.{need_is, takes_is, ran_by_geometry, rest_kept, started_again}
 use Rattle.standalone.proofs.run.run.Goals as goal
 
 pub touch_all-requires : goal.touch_all-requires
 touch_all-requires g c =
-    let p = three g.A.Policy.meaning g.B.Policy.meaning g.C.Policy.meaning in
+    let p = g.S.Suite.suite.three in
     let geometry = c.in_ok-geometry.geometry in
-    let laws = lawful_of p g.met.A.Policy.lawful g.met.B.Policy.lawful g.met.C.Policy.lawful geometry.member in
+    let laws = g.met.S.Suite.lawful.laws geometry.member in
     let ready = c.in_ok-geometry.ensures in
     let takes = takes_is p c.args.line.now geometry ready.geometry in
     record {
@@ -21,9 +20,9 @@ touch_all-requires g c =
 
 pub returns : goal.returns
 returns g c =
-    let p = three g.A.Policy.meaning g.B.Policy.meaning g.C.Policy.meaning in
+    let p = g.S.Suite.suite.three in
     let geometry = c.in_ok-geometry.geometry in
-    let laws = lawful_of p g.met.A.Policy.lawful g.met.B.Policy.lawful g.met.C.Policy.lawful geometry.member in
+    let laws = g.met.S.Suite.lawful.laws geometry.member in
     let ready = c.in_ok-geometry.ensures in
     let takes = takes_is p c.args.line.now geometry ready.geometry in
     record {

@@ -2,9 +2,9 @@ use Rattle.std.proofs.Common.{length, sym, ◌∙◌, arith, rules}
 use Rattle.std.proofs.lemmas.Bool.{cond-true}
 use Rattle.policy.specs.Three.{three}
 use Rattle.bench.specs.Held.{bench_of}
-use Rattle.bench.specs.Suite.{suite}
+use Rattle.policy.specs.Suite.{suite}
 use Rattle.bench.proofs.CallKept.{passed, refused}
-use Rattle.bench.proofs.AllLawful.{lawful}
+use Rattle.policy.specs.SuiteLaws.{lawful}
 use Rattle.bench.specs.Calls.{access}
 use Rattle.bench.specs.State.{pass_state, state_need, touch_state}
 use Rattle.bench.specs.Window.{cached}
@@ -13,32 +13,32 @@ use Rattle.bench.proofs.bench.Bench.access.Goals as goal
 
 pub returns-then-workspace-self : goal.returns-then-workspace-self
 returns-then-workspace-self g c =
-    let s = suite (three g.A.Policy.meaning g.B.Policy.meaning g.C.Policy.meaning) g.A.Nesting.nest g.B.Nesting.nest in
-    let L = lawful s g.met.A.Policy.lawful g.met.B.Policy.lawful g.met.C.Policy.lawful g.met.A.Nesting.nests g.met.B.Nesting.nests in
+    let s = g.S.Suite.suite in
+    let L = g.met.S.Suite.lawful in
     let h = c.args.self.now.held in
     let b = bench_of h c.args.workspace.now in
     refused s L (access c.args.access.now) b _ (room_refused (state_need b.state) (length b.words) b.state.accesses c.args.access.now (omega (arith, h.table.needs, c.if-workspace-self.true)))
 
 pub returns-then-access-gt2 : goal.returns-then-access-gt2
 returns-then-access-gt2 g c =
-    let s = suite (three g.A.Policy.meaning g.B.Policy.meaning g.C.Policy.meaning) g.A.Nesting.nest g.B.Nesting.nest in
-    let L = lawful s g.met.A.Policy.lawful g.met.B.Policy.lawful g.met.C.Policy.lawful g.met.A.Nesting.nests g.met.B.Nesting.nests in
+    let s = g.S.Suite.suite in
+    let L = g.met.S.Suite.lawful in
     let h = c.args.self.now.held in
     let b = bench_of h c.args.workspace.now in
     refused s L (access c.args.access.now) b _ (kind_refused (state_need b.state) (length b.words) b.state.accesses c.args.access.now (omega (arith, h.table.needs, c.if-workspace-self.false)) c.if-access-gt2.true)
 
 pub returns-then-access : goal.returns-then-access
 returns-then-access g c =
-    let s = suite (three g.A.Policy.meaning g.B.Policy.meaning g.C.Policy.meaning) g.A.Nesting.nest g.B.Nesting.nest in
-    let L = lawful s g.met.A.Policy.lawful g.met.B.Policy.lawful g.met.C.Policy.lawful g.met.A.Nesting.nests g.met.B.Nesting.nests in
+    let s = g.S.Suite.suite in
+    let L = g.met.S.Suite.lawful in
     let h = c.args.self.now.held in
     let b = bench_of h c.args.workspace.now in
     refused s L (access c.args.access.now) b _ (address_refused (state_need b.state) (length b.words) b.state.accesses c.args.access.now (omega (arith, h.table.needs, c.if-workspace-self.false)) c.if-access-gt2.false c.if-access.true)
 
 pub returns-then-cached : goal.returns-then-cached
 returns-then-cached g c =
-    let s = suite (three g.A.Policy.meaning g.B.Policy.meaning g.C.Policy.meaning) g.A.Nesting.nest g.B.Nesting.nest in
-    let L = lawful s g.met.A.Policy.lawful g.met.B.Policy.lawful g.met.C.Policy.lawful g.met.A.Nesting.nests g.met.B.Nesting.nests in
+    let s = g.S.Suite.suite in
+    let L = g.met.S.Suite.lawful in
     let h = c.args.self.now.held in
     let b = bench_of h c.args.workspace.now in
     let x = c.args.access.now in

@@ -7,7 +7,7 @@ use Rattle.bench.specs.Counted.{cache_record, record_of, records_of}
 use Rattle.bench.specs.Held.{bench_of, state_of}
 use Rattle.bench.specs.Model.{line_caches}
 use Rattle.bench.specs.Opened.{at_line}
-use Rattle.bench.specs.Suite.{suite}
+use Rattle.policy.specs.Suite.{suite}
 use Rattle.bench.proofs.Records.{records_tracked}
 use Rattle.bench.proofs.SameState.{count_is}
 use Rattle.bench.proofs.bench.Bench.counts.Goals as goal
@@ -23,7 +23,7 @@ returns-then-records-count g c =
 
 pub returns : goal.returns
 returns g c =
-    let s = suite (three g.A.Policy.meaning g.B.Policy.meaning g.C.Policy.meaning) g.A.Nesting.nest g.B.Nesting.nest in
+    let s = g.S.Suite.suite in
     let h = c.args.self.now.held in
     let rs = records_of (state_of h) in
     let n = length (take h.table.count h.misses) in

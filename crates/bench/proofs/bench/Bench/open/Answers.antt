@@ -5,9 +5,9 @@ use Rattle.policy.specs.Three.{three}
 use Rattle.bench.specs.Calls.{open_table}
 use Rattle.bench.specs.Held.{bench_of}
 use Rattle.bench.specs.State.{no_misses}
-use Rattle.bench.specs.Suite.{suite}
+use Rattle.policy.specs.Suite.{suite}
 use Rattle.bench.proofs.CallKept.{passed}
-use Rattle.bench.proofs.AllLawful.{lawful}
+use Rattle.policy.specs.SuiteLaws.{lawful}
 use Rattle.bench.proofs.SameState.{count_is, same_bench}
 use Rattle.bench.specs.Held.{lines_of}
 use Rattle.bench.specs.Opened.{need, or_else, unless}
@@ -18,8 +18,8 @@ use Rattle.bench.proofs.bench.Bench.open.Goals as goal
 
 pub returns : goal.returns
 returns g c =
-    let s = suite (three g.A.Policy.meaning g.B.Policy.meaning g.C.Policy.meaning) g.A.Nesting.nest g.B.Nesting.nest in
-    let L = lawful s g.met.A.Policy.lawful g.met.B.Policy.lawful g.met.C.Policy.lawful g.met.A.Nesting.nests g.met.B.Nesting.nests in
+    let s = g.S.Suite.suite in
+    let L = g.met.S.Suite.lawful in
     let h = c.args.self.now.held in
     let E = c.no_counts-self.ensures in
     let t = c.in_ok-table.table in

@@ -6,15 +6,15 @@ use Rattle.geometry.proofs.Asked.{passes, stops}
 use Rattle.bench.specs.Calls.{window}
 use Rattle.bench.specs.Held.{bench_of}
 use Rattle.bench.specs.Opened.{at_line}
-use Rattle.bench.specs.Suite.{suite}
+use Rattle.policy.specs.Suite.{suite}
 use Rattle.bench.proofs.CallKept.{refused}
-use Rattle.bench.proofs.AllLawful.{lawful}
+use Rattle.policy.specs.SuiteLaws.{lawful}
 use Rattle.bench.proofs.bench.Bench.window.Goals as goal
 
 pub returns-then-first-end : goal.returns-then-first-end
 returns-then-first-end g c ws =
-    let s = suite (three g.A.Policy.meaning g.B.Policy.meaning g.C.Policy.meaning) g.A.Nesting.nest g.B.Nesting.nest in
-    let L = lawful s g.met.A.Policy.lawful g.met.B.Policy.lawful g.met.C.Policy.lawful g.met.A.Nesting.nests g.met.B.Nesting.nests in
+    let s = g.S.Suite.suite in
+    let L = g.met.S.Suite.lawful in
     let h = c.args.self.now.held in
     let first = c.args.first in
     let end = c.args.end in

@@ -25,7 +25,7 @@ invariant_of-result g c =
 
 pub returns : goal.returns
 returns g c =
-    let p = three g.A.Policy.meaning g.B.Policy.meaning g.C.Policy.meaning in
+    let p = g.S.Suite.suite.three in
     let lines = c.args.lines.now in
     let n = length lines in
     let es = c.read_lines.new.entries in

@@ -13,8 +13,8 @@ pub record Suite : Type 1 where
   pub second_nest : Nest
 
 -- a suite from its parts
-abbrev pub suite : Three → Nest → Nest → Suite
-suite p a b = record { three = p; first_nest = a; second_nest = b }
+abbrev pub suite_of : Three → Nest → Nest → Suite
+suite_of p a b = record { three = p; first_nest = a; second_nest = b }
 
 -- the policy of a member
 abbrev pub meaning : Suite → Member → Meaning

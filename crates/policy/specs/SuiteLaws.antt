@@ -5,7 +5,7 @@ use Rattle.policy.specs.Policy.{Laws}
 use Rattle.policy.specs.Nesting.{Nests}
 use Rattle.policy.specs.declared.three.Member.{Member}
 use Rattle.policy.specs.declared.three.Member.TheVariants.{First, Second, Further}
-use Rattle.bench.specs.Suite.{Suite, Lawful, meaning, nest, nesting}
+use Rattle.policy.specs.Suite.{Suite, Lawful, meaning, nest, nesting}
 
 pub lawful : (s : Suite) → Laws s.three.first → Laws s.three.second → Laws s.three.further → Nests s.three.first s.first_nest → Nests s.three.second s.second_nest → Lawful s
 lawful s a b c na nb = record { laws = by_member; nests = nests_by }
