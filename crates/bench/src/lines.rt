@@ -1,7 +1,7 @@
 // The lines of a table, and what is asked of them.
 ghost use Rattle.std.specs.Prelude.{◌≡◌, ◌≤◌, ◌&&◌, [], ◌∷◌, ◌++◌, map, length, take, IfOk, Some, None, MatchResult, OnOk};
 ghost use Rattle.geometry.specs.Line.{GeometryOf, line_questions};
-ghost use Rattle.geometry.specs.Refusal.{ask, first_no, refusal_number};
+ghost use Rattle.geometry.specs.Refusal.{Answers, ask, refusal_number};
 ghost use Rattle.bench.specs.Opened.{before, in_order, lines_refusal, table_refusal};
 ghost use Rattle.bench.specs.Refused.{no_of};
 ghost use Rattle.bench.specs.Spans.{configs};
@@ -49,7 +49,7 @@ fn check_line<S: Suite>(
     last: &Option<Line>,
     line: &Line,
 ) -> Result<Geometry, Refusal>
-    ensures passes { MatchResult result (λ _. first_no (line_questions S.suite.three line.now ++ (ask 10 (in_order last.now line.now) ∷ [])) ≡ None) (λ e. first_no (line_questions S.suite.three line.now ++ (ask 10 (in_order last.now line.now) ∷ [])) ≡ Some (refusal_number e)) }
+    ensures passes { Answers (line_questions S.suite.three line.now ++ (ask 10 (in_order last.now line.now) ∷ [])) result }
     ensures geometry { IfOk result (λ g. GeometryOf S.suite.three line.now g) }
 {
     let geometry = line.check(policies)?;

@@ -1,5 +1,5 @@
 -- Refusals, and the order in which a call asks its questions.
-use Rattle.std.specs.Prelude.{ℕ, Bool, cond, List, [], ◌∷◌, Some, None, Option}
+use Rattle.std.specs.Prelude.{◌≡◌, ℕ, Bool, cond, List, [], ◌∷◌, Some, None, Option, Result, MatchResult}
 use Rattle.geometry.specs.declared.refusal.Refusal.{Refusal}
 use Rattle.geometry.specs.declared.refusal.Refusal.TheVariants.{
   LineFeed,
@@ -57,3 +57,7 @@ ask number passes = record { passes = passes; number = number }
 abbrev pub first_no : List Question → Option ℕ
 first_no [] = None
 first_no (q ∷ qs) = cond q.passes (first_no qs) (Some q.number)
+
+-- an answer to questions: each is passed, or the first that is not is told
+abbrev pub Answers : {A : Type 0} → List Question → Result A Refusal → Type 0
+Answers qs r = MatchResult r (λ _. first_no qs ≡ None) (λ e. first_no qs ≡ Some (refusal_number e))

@@ -1,7 +1,7 @@
 // A table line, and the questions that it must pass.
-ghost use Rattle.std.specs.Prelude.{◌≡◌, ◌^◌, ◌≤◌, true, false, IfOk, Some, None, MatchOption, MatchResult};
+ghost use Rattle.std.specs.Prelude.{◌≡◌, ◌^◌, ◌≤◌, true, false, IfOk, Some, None, MatchOption};
 ghost use Rattle.geometry.specs.Line.{GeometryOf, line_questions, power_to};
-ghost use Rattle.geometry.specs.Refusal.{first_no, refusal_number};
+ghost use Rattle.geometry.specs.Refusal.{Answers};
 
 use crate::geometry::Geometry;
 use crate::refusal::Refusal;
@@ -32,11 +32,8 @@ fn exponent_of(n: u64, most: u32) -> Option<u32>
 
 impl Line {
     // The geometry of the line, or the first question that it does not pass.
-    pub fn check<S: Suite>(
-        &self,
-        policies: &S,
-    ) -> Result<Geometry, Refusal>
-        ensures passes { MatchResult result (λ _. first_no (line_questions S.suite.three self.now) ≡ None) (λ e. first_no (line_questions S.suite.three self.now) ≡ Some (refusal_number e)) }
+    pub fn check<S: Suite>(&self, policies: &S) -> Result<Geometry, Refusal>
+        ensures passes { Answers (line_questions S.suite.three self.now) result }
         ensures geometry { IfOk result (λ g. GeometryOf S.suite.three self.now g) }
     {
         let member = policies.find(self.letter).ok_or(Refusal::Letter)?;

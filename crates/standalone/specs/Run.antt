@@ -5,6 +5,7 @@ use Rattle.policy.specs.Policy.{Meaning}
 use Rattle.policy.specs.Three.{Three, policy_of, which}
 use Rattle.policy.specs.declared.three.Member.{Member}
 use Rattle.geometry.specs.Refusal.{Question, ask, first_no}
+use Rattle.geometry.specs.Address.{block_in, sets_in}
 use Rattle.geometry.specs.Line.{line_questions, GeometryOf}
 use Rattle.geometry.specs.declared.geometry.Geometry.{Geometry}
 use Rattle.geometry.specs.declared.line.Line.{Line}
@@ -52,3 +53,7 @@ pub record Prepared (p : Three) (line : Line) (xs : List Access) (words : ℕ) (
   pub room : need line ≤ words
   pub few : length xs ≤ 4294967295
   pub allowed : AllByRecursion Allowed xs
+
+-- in a cache of this geometry
+abbrev pub TracksIn : Three → Geometry → List Access → List ℕ → List ℕ → Counts → ℕ → Type 0
+TracksIn p g xs rest memory counts comparisons = Tracks (policy_of p g.member) (block_in g) (sets_in g) g.ways xs rest memory counts comparisons

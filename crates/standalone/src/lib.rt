@@ -2,6 +2,6 @@
 #![tactic(auto)]
 
 pub mod access;
+mod cache;
 pub mod known;
-pub mod rows;
 pub mod run;

@@ -6,9 +6,9 @@ use Rattle.standalone.proofs.run.run.Goals as goal
 pub touch_all-requires : goal.touch_all-requires
 touch_all-requires g c =
     let p = g.S.Suite.suite.three in
-    let geometry = c.in_ok-geometry.geometry in
+    let geometry = c.in_ok-cache.cache.geometry in
     let laws = g.met.S.Suite.lawful.laws geometry.member in
-    let ready = c.in_ok-geometry.ensures in
+    let ready = c.in_ok-cache.ensures in
     let takes = takes_is p c.args.line.now geometry ready.geometry in
     record {
       room = omega (arith, ready.room, need_is p c.args.line.now geometry ready.geometry);
@@ -21,9 +21,9 @@ touch_all-requires g c =
 pub returns : goal.returns
 returns g c =
     let p = g.S.Suite.suite.three in
-    let geometry = c.in_ok-geometry.geometry in
+    let geometry = c.in_ok-cache.cache.geometry in
     let laws = g.met.S.Suite.lawful.laws geometry.member in
-    let ready = c.in_ok-geometry.ensures in
+    let ready = c.in_ok-cache.ensures in
     let takes = takes_is p c.args.line.now geometry ready.geometry in
     record {
       passes = ready.asked;

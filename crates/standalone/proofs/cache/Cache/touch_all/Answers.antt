@@ -5,33 +5,33 @@ use Rattle.policy.specs.Three.{policy_of}
 use Rattle.geometry.specs.Kind.{kind_number}
 use Rattle.standalone.specs.Run.{Tracks}
 use Rattle.standalone.proofs.Step.{going, misses_fit, hits_fit, compared_fit, tracks_more}
-use Rattle.standalone.proofs.run.touch_all.Goals as goal
+use Rattle.standalone.proofs.cache.Cache.touch_all.Goals as goal
 
 pub add-requires : goal.add-requires
 add-requires g c =
-    let geometry = c.args.geometry.now in
+    let geometry = c.args.self.now.geometry in
     let G = going (g.met.S.Suite.lawful.laws geometry.member) c.requires.takes (pow_pos geometry.set_bits) c.requires.allowed c.requires.few c.loop-access-test.true c.loop-access.invariant in
     let kind = kind_number c.in-Ok.checked.kind in
     record { misses_fit = misses_fit G _ c.in-Ok.ensures kind; hits_fit = hits_fit G _ c.in-Ok.ensures kind }
 
 pub overflow_add-comparisons : goal.overflow_add-comparisons
 overflow_add-comparisons g c =
-    let geometry = c.args.geometry.now in
+    let geometry = c.args.self.now.geometry in
     let G = going (g.met.S.Suite.lawful.laws geometry.member) c.requires.takes (pow_pos geometry.set_bits) c.requires.allowed c.requires.few c.loop-access-test.true c.loop-access.invariant in
-    let fits = compared_fit G _ c.in-Ok.ensures c.touch_row-hit.result.1 c.touch_row-hit.ensures.comparisons in
+    let fits = compared_fit G _ c.in-Ok.ensures c.touch-hit.result.1 c.touch-hit.ensures.comparisons in
     search rules
 
 pub loop-access-preserved : goal.loop-access-preserved
 loop-access-preserved g c =
-    let geometry = c.args.geometry.now in
+    let geometry = c.args.self.now.geometry in
     let G = going (g.met.S.Suite.lawful.laws geometry.member) c.requires.takes (pow_pos geometry.set_bits) c.requires.allowed c.requires.few c.loop-access-test.true c.loop-access.invariant in
-    tracks_more G _ c.in-Ok.ensures c.touch_row-hit.result.0 c.touch_row-hit.result.1 c.touch_row-hit.new.memory c.add.new.self
-    c.touch_row-hit.ensures.hit c.touch_row-hit.ensures.comparisons c.touch_row-hit.ensures.row c.add.ensures.misses c.add.ensures.hits
+    tracks_more G _ c.in-Ok.ensures c.touch-hit.result.0 c.touch-hit.result.1 c.touch-hit.new.memory c.add.new.self
+    c.touch-hit.ensures.hit c.touch-hit.ensures.comparisons c.touch-hit.ensures.row c.add.ensures.misses c.add.ensures.hits
 
 pub returns : goal.returns
 returns g c =
-    let m = policy_of g.S.Suite.suite.three c.args.geometry.now.member in
+    let m = policy_of g.S.Suite.suite.three c.args.self.now.geometry.member in
     subst
-    (λ xs. Tracks m (2 ^ c.args.geometry.now.block_bits) (2 ^ c.args.geometry.now.set_bits) c.args.geometry.now.ways xs
-    (drop (2 ^ c.args.geometry.now.set_bits * (c.args.geometry.now.ways + 1)) c.args.memory.now) c.loop-access.memory c.loop-access.counts c.loop-access.comparisons)
+    (λ xs. Tracks m (2 ^ c.args.self.now.geometry.block_bits) (2 ^ c.args.self.now.geometry.set_bits) c.args.self.now.geometry.ways xs
+    (drop (2 ^ c.args.self.now.geometry.set_bits * (c.args.self.now.geometry.ways + 1)) c.args.memory.now) c.loop-access.memory c.loop-access.counts c.loop-access.comparisons)
     (take_all c.loop-access.access-index c.args.accesses.now c.loop-access-test.false) c.loop-access.invariant

@@ -7,7 +7,7 @@ use Rattle.geometry.proofs.Asked.{after_none, after_some, passes}
 use Rattle.standalone.specs.Run.{need, access_questions}
 use Rattle.standalone.proofs.Questions.{all_allowed}
 use Rattle.standalone.proofs.Runs.{need_is}
-use Rattle.standalone.proofs.run.prepare.Goals as goal
+use Rattle.standalone.proofs.cache.Cache.prepare.Goals as goal
 
 pub returns : goal.returns
 returns g c =
