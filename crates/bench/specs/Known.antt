@@ -5,7 +5,7 @@ use Rattle.policy.specs.Stack.{fifo_nest, lru_nest}
 use Rattle.policy.specs.Standard.{standard}
 use Rattle.geometry.specs.declared.line.Line.{Line}
 use Rattle.standalone.specs.Known.{read, six_reads}
-use Rattle.policy.specs.Suite.{Suite, suite}
+use Rattle.policy.specs.Suite.{Suite, suite_of}
 use Rattle.bench.specs.Calls.{Do, Model, access, model_run, new_model, open_table, window}
 use Rattle.bench.specs.Model.{line_caches, separate}
 use Rattle.bench.specs.Opened.{No, need}
@@ -13,7 +13,7 @@ use Rattle.bench.specs.State.{Bench, bench_answers, bench_run, new_state}
 
 -- the policies F, L and P
 abbrev pub standard_suite : Suite
-standard_suite = suite standard fifo_nest lru_nest
+standard_suite = suite_of standard fifo_nest lru_nest
 
 -- A pass: a table, the calls after it is opened, the words of the workspace, and what must come of them.
 pub record KnownPass : Type 0 where

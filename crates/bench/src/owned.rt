@@ -24,8 +24,8 @@ pub(crate) fn step_owned<S: Suite>(
     ensures leads { leads_seen leads.new ≡ with_lead (leads_seen leads.old) member (own_step S.suite (record { member = member; slot = slot_of words.old }) tag (leads_seen leads.old)).lead }
 {
     match member {
-        Member::First => step_row(&policies.first, words, tag, &mut leads.first),
-        Member::Second => step_row(&policies.second, words, tag, &mut leads.second),
-        Member::Further => touch_alone(&policies.further, words, tag),
+        Member::First => step_row(policies, member, words, tag, &mut leads.first),
+        Member::Second => step_row(policies, member, words, tag, &mut leads.second),
+        Member::Further => touch_alone(policies, member, words, tag),
     }
 }

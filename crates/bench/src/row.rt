@@ -1,29 +1,32 @@
 // One row of a nesting policy in a sweep.
 ghost use Rattle.std.specs.Prelude.{◌≡◌, ◌+◌, ◌<◌, ◌≤◌, true, length, None};
+ghost use Rattle.policy.specs.Suite.{meaning, nest};
 ghost use Rattle.bench.specs.Lead.{lead_seen, lead_value};
 ghost use Rattle.bench.specs.Rows.{leave, step, step_alone, touch_leader};
 ghost use Rattle.bench.specs.Words.{slot_of, words_of};
 
 use crate::lead::Lead;
-use policy::traits::{Nesting, Policy};
+use policy::suite::Suite;
+use policy::three::Member;
 
 // Touches a row that leads, and tells narrower rows what it did.
-fn touch_leader<P: Nesting>(
-    policy: &P,
+fn touch_leader<S: Suite>(
+    policies: &S,
+    member: Member,
     words: &mut [u32],
     tag: u32,
     lead: &mut Lead,
 ) -> (bool, usize)
     requires { (1 < length words.old) × (length words.old ≤ 18) }
-    ensures hit { result.0 ≡ (touch_leader P.Policy.meaning (slot_of words.old) tag).hit }
-    ensures comparisons { result.1 ≡ (touch_leader P.Policy.meaning (slot_of words.old) tag).comparisons }
-    ensures words { words.new ≡ words_of (touch_leader P.Policy.meaning (slot_of words.old) tag).slot }
-    ensures lead { lead_seen lead.new ≡ (touch_leader P.Policy.meaning (slot_of words.old) tag).lead }
+    ensures hit { result.0 ≡ (touch_leader (meaning S.suite member) (slot_of words.old) tag).hit }
+    ensures comparisons { result.1 ≡ (touch_leader (meaning S.suite member) (slot_of words.old) tag).comparisons }
+    ensures words { words.new ≡ words_of (touch_leader (meaning S.suite member) (slot_of words.old) tag).slot }
+    ensures lead { lead_seen lead.new ≡ (touch_leader (meaning S.suite member) (slot_of words.old) tag).lead }
 {
     let count = words.len() - 1;
     lead.before[0..count].copy_from_slice(&words[1..]);
     lead.words = count;
-    let (hit, comparisons) = policy.touch(&mut words[1..], tag);
+    let (hit, comparisons) = policies.touch(member, &mut words[1..], tag);
     lead.told = true;
     lead.hit = hit;
     lead.place = comparisons;
@@ -31,35 +34,42 @@ fn touch_leader<P: Nesting>(
 }
 
 // Truncates a follower from its leader's row as it was before, touches it, and lets it lead.
-fn leave_leader<P: Nesting>(policy: &P, words: &mut [u32], tag: u32, lead: &mut Lead)
+fn leave_leader<S: Suite>(
+    policies: &S,
+    member: Member,
+    words: &mut [u32],
+    tag: u32,
+    lead: &mut Lead,
+)
     requires { (1 < length words.old) × (lead.old.told ≡ true) }
-    ensures words { words.new ≡ words_of (leave P.Policy.meaning P.Nesting.nest (slot_of words.old) tag (lead_value lead.old)).slot }
-    ensures lead { lead_seen lead.new ≡ (leave P.Policy.meaning P.Nesting.nest (slot_of words.old) tag (lead_value lead.old)).lead }
+    ensures words { words.new ≡ words_of (leave (meaning S.suite member) (nest S.suite member) (slot_of words.old) tag (lead_value lead.old)).slot }
+    ensures lead { lead_seen lead.new ≡ (leave (meaning S.suite member) (nest S.suite member) (slot_of words.old) tag (lead_value lead.old)).lead }
 {
     let count = lead.words;
     words[0] = 0;
-    policy.truncate(&lead.before[0..count], &mut words[1..]);
-    let _ = policy.touch(&mut words[1..], tag);
+    policies.truncate(member, &lead.before[0..count], &mut words[1..]);
+    let _ = policies.touch(member, &mut words[1..], tag);
     lead.hit = false;
     lead.place = 0;
     lead.words = 0;
 }
 
 // Sweeps one row of a nesting policy, after its wider ones: whether it hit, and the comparisons that are reported.
-pub(crate) fn step_row<P: Nesting>(
-    policy: &P,
+pub(crate) fn step_row<S: Suite>(
+    policies: &S,
+    member: Member,
     words: &mut [u32],
     tag: u32,
     lead: &mut Lead,
 ) -> (bool, usize)
     requires { (1 < length words.old) × (length words.old ≤ 18) }
-    ensures hit { result.0 ≡ (step P.Policy.meaning P.Nesting.nest (slot_of words.old) tag (lead_seen lead.old)).hit }
-    ensures comparisons { result.1 ≡ (step P.Policy.meaning P.Nesting.nest (slot_of words.old) tag (lead_seen lead.old)).comparisons }
-    ensures words { words.new ≡ words_of (step P.Policy.meaning P.Nesting.nest (slot_of words.old) tag (lead_seen lead.old)).slot }
-    ensures lead { lead_seen lead.new ≡ (step P.Policy.meaning P.Nesting.nest (slot_of words.old) tag (lead_seen lead.old)).lead }
+    ensures hit { result.0 ≡ (step (meaning S.suite member) (nest S.suite member) (slot_of words.old) tag (lead_seen lead.old)).hit }
+    ensures comparisons { result.1 ≡ (step (meaning S.suite member) (nest S.suite member) (slot_of words.old) tag (lead_seen lead.old)).comparisons }
+    ensures words { words.new ≡ words_of (step (meaning S.suite member) (nest S.suite member) (slot_of words.old) tag (lead_seen lead.old)).slot }
+    ensures lead { lead_seen lead.new ≡ (step (meaning S.suite member) (nest S.suite member) (slot_of words.old) tag (lead_seen lead.old)).lead }
 {
     if words[0] == 0 {
-        return touch_leader(policy, words, tag, lead);
+        return touch_leader(policies, member, words, tag, lead);
     }
     if !lead.told || !lead.hit {
         return (false, 0);
@@ -67,18 +77,23 @@ pub(crate) fn step_row<P: Nesting>(
     if lead.place <= words.len() - 2 {
         return (true, 0);
     }
-    if !policy.keeps_nesting() {
-        leave_leader(policy, words, tag, lead);
+    if !policies.keeps_nesting(member) {
+        leave_leader(policies, member, words, tag, lead);
     }
     (false, 0)
 }
 
 // Touches a row of the further policy, which always leads.
-pub(crate) fn touch_alone<P: Policy>(policy: &P, words: &mut [u32], tag: u32) -> (bool, usize)
+pub(crate) fn touch_alone<S: Suite>(
+    policies: &S,
+    member: Member,
+    words: &mut [u32],
+    tag: u32,
+) -> (bool, usize)
     requires { 1 < length words.old }
-    ensures hit { result.0 ≡ (step_alone P.Policy.meaning (slot_of words.old) tag None).hit }
-    ensures comparisons { result.1 ≡ (step_alone P.Policy.meaning (slot_of words.old) tag None).comparisons }
-    ensures words { words.new ≡ words_of (step_alone P.Policy.meaning (slot_of words.old) tag None).slot }
+    ensures hit { result.0 ≡ (step_alone (meaning S.suite member) (slot_of words.old) tag None).hit }
+    ensures comparisons { result.1 ≡ (step_alone (meaning S.suite member) (slot_of words.old) tag None).comparisons }
+    ensures words { words.new ≡ words_of (step_alone (meaning S.suite member) (slot_of words.old) tag None).slot }
 {
-    policy.touch(&mut words[1..], tag)
+    policies.touch(member, &mut words[1..], tag)
 }

@@ -1,7 +1,6 @@
 use Rattle.std.proofs.Common.{sym, ◌∙◌, rules}
 use Rattle.policy.specs.Three.{three}
 use Rattle.bench.specs.Mixed.{own_step}
-use Rattle.policy.specs.Suite.{suite}
 use Rattle.bench.proofs.LevelRows.{level_hit, level_miss}
 use Rattle.bench.proofs.level.visit_level.Goals as goal
 

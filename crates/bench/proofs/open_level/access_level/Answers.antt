@@ -2,7 +2,6 @@ use Rattle.std.proofs.Common.{sym, ◌∙◌, rules}
 use Rattle.policy.specs.Three.{three}
 use Rattle.bench.specs.Mixed.{own_step}
 use Rattle.bench.specs.OpenLines.{kins_of}
-use Rattle.policy.specs.Suite.{suite}
 use Rattle.bench.proofs.VisitDone.{level_hit, level_miss}
 use Rattle.bench.proofs.open_level.access_level.Goals as goal
 

@@ -6,7 +6,6 @@ use Rattle.bench.specs.OpenLines.{kins_of, line_kin}
 use Rattle.policy.specs.Three.{three}
 use Rattle.bench.specs.Group.{SetSwept}
 use Rattle.bench.specs.Mixed.{own_step}
-use Rattle.policy.specs.Suite.{suite}
 use Rattle.bench.specs.Lead.{leads_seen}
 use Rattle.bench.specs.Words.{lines_words, line_words, wide}
 use Rattle.bench.proofs.SetRows.{rows_none, rows_more, words_first, words_single, rows_single, first_counted, first_there, first_of, row_part, row_put, rows_as, rows_from}

@@ -3,7 +3,6 @@ use Rattle.policy.specs.Three.{three}
 use Rattle.bench.specs.Held.{bench_of}
 use Rattle.bench.specs.Spoken.{answer_of, do_of, spoken}
 use Rattle.bench.specs.State.{bench_answers, bench_run, new_bench}
-use Rattle.policy.specs.Suite.{suite}
 use Rattle.bench.specs.declared.call.Call.TheVariants.{Flush}
 use Rattle.bench.proofs.CallByCall.{answers_step, both_lists, rest_stays, run_step}
 use Rattle.policy.specs.SuiteLaws.{lawful}

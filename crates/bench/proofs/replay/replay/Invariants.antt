@@ -3,7 +3,6 @@ use Rattle.policy.specs.Three.{three}
 use Rattle.bench.specs.Held.{bench_of}
 use Rattle.bench.specs.Spoken.{answer_of, spoken}
 use Rattle.bench.specs.State.{bench_answers, bench_run, new_bench}
-use Rattle.policy.specs.Suite.{suite}
 use Rattle.bench.proofs.replay.replay.Given as goal
 
 abbrev pub invariant-loop-k : goal.invariant-loop-k

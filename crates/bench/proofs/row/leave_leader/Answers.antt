@@ -1,12 +1,13 @@
 use Rattle.std.proofs.Common.{◌≡◌, ◌+◌, ◌-◌, ◌<◌, false, cond, [], ◌∷◌, length, take, drop, set, Some, None, ap, ◌∙◌, arith}
 use Rattle.std.proofs.lemmas.List.{length-set, length-take, length-drop}
+use Rattle.policy.specs.Suite.{meaning, nest}
 use Rattle.bench.proofs.RowWords.{row_left, row_cut}
 use Rattle.bench.proofs.row.leave_leader.Goals as goal
 
 pub returns : goal.returns
 returns g c =
-    let m = g.P.Policy.meaning in
-    let e = g.P.Nesting.nest in
+    let m = meaning g.S.Suite.suite c.args.member in
+    let e = nest g.S.Suite.suite c.args.member in
     let ws = c.args.words.now in
     let t = c.args.tag in
     let wide = take c.args.lead.now.words c.args.lead.now.before in

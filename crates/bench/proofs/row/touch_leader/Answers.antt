@@ -1,11 +1,12 @@
 use Rattle.std.proofs.Common.{◌≡◌, ◌-◌, ◌∷◌, length, get_or, take, drop, ap, ◌∙◌, rules}
 use Rattle.std.proofs.lemmas.List.{take_rest, take_at}
+use Rattle.policy.specs.Suite.{meaning, nest}
 use Rattle.bench.proofs.RowWords.{row_replaced, same_lead}
 use Rattle.bench.proofs.row.touch_leader.Goals as goal
 
 pub returns : goal.returns
 returns g c =
-    let m = g.P.Policy.meaning in
+    let m = meaning g.S.Suite.suite c.args.member in
     let ws = c.args.words.now in
     let t = c.args.tag in
     let part : take (length ws - 1) (drop 1 ws) ≡ drop 1 ws = take_rest ws 1 in

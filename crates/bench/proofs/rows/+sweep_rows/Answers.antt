@@ -5,7 +5,6 @@ use Rattle.bench.specs.Entries.{kin_of, counted}
 use Rattle.policy.specs.Three.{three}
 use Rattle.bench.specs.Group.{RowsSwept}
 use Rattle.bench.specs.Mixed.{own_step}
-use Rattle.policy.specs.Suite.{suite}
 use Rattle.bench.specs.Lead.{leads_seen}
 use Rattle.bench.specs.Words.{lines_words, line_words, wide}
 use Rattle.bench.proofs.GroupRows.{rows_none, rows_more, words_first, words_single, rows_single, lines_after, first_after, rows_as}

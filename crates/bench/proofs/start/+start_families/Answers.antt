@@ -2,7 +2,6 @@ use Rattle.std.proofs.Common.{◌<◌, length, drop, sym, ◌∙◌, subst₂, a
 use Rattle.std.proofs.lemmas.List.{length-drop, length-take-le, take_rest}
 use Rattle.policy.specs.Three.{three}
 use Rattle.bench.specs.Started.{FamiliesStarted}
-use Rattle.policy.specs.Suite.{suite}
 use Rattle.bench.proofs.FamiliesSwept.{first_family, later_fit, levels_fit, within}
 use Rattle.bench.proofs.LevelsStarted.{families_more, families_none}
 use Rattle.bench.proofs.TwoParts.{first_within, others_are, others_put}

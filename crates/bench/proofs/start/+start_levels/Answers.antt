@@ -4,7 +4,6 @@ use Rattle.policy.specs.Three.{three}
 use Rattle.bench.specs.OpenLines.{kins_of}
 use Rattle.bench.specs.Level.{level_words}
 use Rattle.bench.specs.Started.{LevelsStarted}
-use Rattle.policy.specs.Suite.{suite}
 use Rattle.bench.proofs.LevelsStarted.{levels_more, levels_none}
 use Rattle.bench.proofs.LevelsSwept.{first_level, later_fit, visit_room, within}
 use Rattle.bench.proofs.TwoParts.{first_within, others_are, others_put}

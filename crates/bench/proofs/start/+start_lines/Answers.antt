@@ -3,7 +3,7 @@ use Rattle.std.proofs.lemmas.List.{length-drop, take_rest}
 use Rattle.policy.specs.Three.{three}
 use Rattle.bench.specs.OpenLines.{kins_of}
 use Rattle.bench.specs.Start.{any_of, started_lines}
-use Rattle.policy.specs.Suite.{nesting, suite}
+use Rattle.policy.specs.Suite.{nesting}
 use Rattle.bench.specs.Words.{lines_words, wide}
 use Rattle.bench.proofs.AnyOf.{wide_next, wide_past}
 use Rattle.bench.proofs.LinesStarted.{lines_more, lines_none, lines_single}

@@ -2,7 +2,6 @@ use Rattle.std.proofs.Common.{◌≡◌, ◌*◌, ◌≤◌, ◌++◌, length, d
 use Rattle.policy.specs.Three.{three}
 use Rattle.bench.specs.OpenLines.{kins_of}
 use Rattle.bench.specs.Start.{started_lines}
-use Rattle.policy.specs.Suite.{suite}
 use Rattle.bench.specs.Words.{lines_words, wide}
 use Rattle.bench.proofs.LinesStarted.{zeros_then}
 use Rattle.bench.proofs.TwoParts.{others_are, others_put}

@@ -3,7 +3,6 @@ use Rattle.std.proofs.lemmas.List.{length-take, length-drop}
 use Rattle.policy.specs.Three.{three}
 use Rattle.standalone.proofs.Laid.{row_within, start_step}
 use Rattle.bench.specs.Started.{new_row}
-use Rattle.policy.specs.Suite.{suite}
 use Rattle.bench.proofs.start.start_line.Goals as goal
 
 pub offset_bounds-words-from : goal.offset_bounds-words-from

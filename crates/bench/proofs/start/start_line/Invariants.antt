@@ -2,7 +2,6 @@ use Rattle.std.proofs.Common.{◌≡◌, ◌+◌, ◌++◌, drop, replicate}
 use Rattle.policy.specs.Three.{three}
 use Rattle.standalone.specs.Rows.{laid}
 use Rattle.bench.specs.Started.{new_row}
-use Rattle.policy.specs.Suite.{suite}
 use Rattle.bench.specs.Words.{line_words}
 use Rattle.bench.proofs.start.start_line.Given as goal
 

@@ -1,6 +1,5 @@
 use Rattle.std.proofs.Common.{rules}
 use Rattle.policy.specs.Three.{three}
-use Rattle.policy.specs.Suite.{suite}
 use Rattle.bench.proofs.StartedRows.{row_follows, row_leads}
 use Rattle.bench.proofs.start.start_row.Goals as goal
 

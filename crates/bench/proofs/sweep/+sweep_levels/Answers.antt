@@ -2,7 +2,6 @@ use Rattle.std.proofs.Common.{◌≡◌, ◌-◌, ◌^◌, ◌<◌, ◌≤◌, �
 use Rattle.std.proofs.lemmas.List.{length-drop, length-take, length-take-le, take_rest}
 use Rattle.policy.specs.Three.{three}
 use Rattle.bench.specs.Mixed.{own_step}
-use Rattle.policy.specs.Suite.{suite}
 use Rattle.bench.proofs.DoneParts.{done_same}
 use Rattle.bench.proofs.TwoParts.{first_within, others_are, others_put}
 use Rattle.bench.specs.Done.{LevelsDone}

@@ -2,7 +2,6 @@ use Rattle.std.proofs.Common.{length, sym, ◌∙◌, arith, rules}
 use Rattle.std.proofs.lemmas.Bool.{cond-true}
 use Rattle.policy.specs.Three.{three}
 use Rattle.bench.specs.Held.{bench_of}
-use Rattle.policy.specs.Suite.{suite}
 use Rattle.bench.proofs.CallKept.{passed, refused}
 use Rattle.policy.specs.SuiteLaws.{lawful}
 use Rattle.bench.specs.Calls.{access}

@@ -2,7 +2,6 @@ use Rattle.policy.specs.Three.{three}
 use Rattle.bench.specs.Called.{Called, CalledAlone}
 use Rattle.bench.specs.Calls.{access, flush, frame, off, window}
 use Rattle.bench.specs.Held.{bench_of}
-use Rattle.policy.specs.Suite.{suite}
 use Rattle.bench.proofs.Replies.{by_reply}
 use Rattle.bench.proofs.bench.Bench.call.Goals as goal
 

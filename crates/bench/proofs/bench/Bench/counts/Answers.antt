@@ -7,7 +7,6 @@ use Rattle.bench.specs.Counted.{cache_record, record_of, records_of}
 use Rattle.bench.specs.Held.{bench_of, state_of}
 use Rattle.bench.specs.Model.{line_caches}
 use Rattle.bench.specs.Opened.{at_line}
-use Rattle.policy.specs.Suite.{suite}
 use Rattle.bench.proofs.Records.{records_tracked}
 use Rattle.bench.proofs.SameState.{count_is}
 use Rattle.bench.proofs.bench.Bench.counts.Goals as goal

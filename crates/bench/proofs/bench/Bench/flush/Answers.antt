@@ -5,7 +5,6 @@ use Rattle.geometry.proofs.Asked.{passes}
 use Rattle.bench.specs.Calls.{flush}
 use Rattle.bench.specs.Held.{bench_of}
 use Rattle.bench.specs.Opened.{at_line}
-use Rattle.policy.specs.Suite.{suite}
 use Rattle.bench.proofs.CallKept.{passed}
 use Rattle.policy.specs.SuiteLaws.{lawful}
 use Rattle.bench.proofs.SameState.{same_bench}

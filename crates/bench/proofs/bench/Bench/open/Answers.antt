@@ -5,7 +5,6 @@ use Rattle.policy.specs.Three.{three}
 use Rattle.bench.specs.Calls.{open_table}
 use Rattle.bench.specs.Held.{bench_of}
 use Rattle.bench.specs.State.{no_misses}
-use Rattle.policy.specs.Suite.{suite}
 use Rattle.bench.proofs.CallKept.{passed}
 use Rattle.policy.specs.SuiteLaws.{lawful}
 use Rattle.bench.proofs.SameState.{count_is, same_bench}

@@ -6,7 +6,6 @@ use Rattle.geometry.proofs.Asked.{passes, stops}
 use Rattle.bench.specs.Calls.{window}
 use Rattle.bench.specs.Held.{bench_of}
 use Rattle.bench.specs.Opened.{at_line}
-use Rattle.policy.specs.Suite.{suite}
 use Rattle.bench.proofs.CallKept.{refused}
 use Rattle.policy.specs.SuiteLaws.{lawful}
 use Rattle.bench.proofs.bench.Bench.window.Goals as goal
