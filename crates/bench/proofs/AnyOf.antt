@@ -1,10 +1,11 @@
 -- The steps of a search for a line of a policy.
-use Rattle.std.proofs.Common.{◌≡◌, ℕ, ◌+◌, ◌<◌, ◌≤◌, true, false, List, ◌∷◌, length, get_or, drop, sym, refl, ap, ◌∙◌}
-use Rattle.std.proofs.lemmas.List.{drop_all, drop_more}
-use Rattle.std.proofs.lemmas.Bool.{cond-true, cond-false}
+use Rattle.std.proofs.Common.{ltb, [], ◌≡◌, ℕ, ◌+◌, ◌<◌, ◌≤◌, Bool, true, false, List, ◌∷◌, length, get_or, drop, sym, refl, ap, ◌∙◌}
+use Rattle.std.specs.List.{list_any}
+use Rattle.std.proofs.lemmas.List.{drop_more}
+use Rattle.std.proofs.lemmas.Bool.{ltb-true, ltb-false}
 use Rattle.policy.specs.declared.three.Member.{Member}
 use Rattle.policy.specs.declared.three.Member.TheVariants.{First, Second, Further}
-use Rattle.bench.specs.OpenLines.{line_kin, kins_of}
+use Rattle.bench.specs.OpenLines.{line_kin, kins_of, wide_of}
 use Rattle.bench.specs.Start.{any_of}
 use Rattle.policy.specs.Suite.{same}
 use Rattle.bench.specs.Words.{Kin, wide}
@@ -44,16 +45,12 @@ module _ (es : List OpenLine) (i : ℕ) (x : OpenLine) (low : i < length es) (is
   pub wide_past : x.geometry.ways ≤ 1 → wide (kins_of (drop i es)) ≡ wide others
   wide_past one = ap wide next ∙ wide_single (line_kin x) others one
 
-  -- it is wide and of the policy, wide and of another, or of one way
-  pub any_here : (k : Member) → 1 < x.geometry.ways → k ≡ x.geometry.member → any_of k (wide (kins_of (drop i es))) ≡ true
-  any_here k two e = ap (any_of k) (wide_next two) ∙ cond-true (same k x.geometry.member) true (any_of k (wide others)) (is_same k x.geometry.member e)
-
-  pub any_other : (k : Member) → 1 < x.geometry.ways → (k ≡ x.geometry.member → ⊥) → any_of k (wide (kins_of (drop i es))) ≡ any_of k (wide others)
-  any_other k two n = ap (any_of k) (wide_next two) ∙ cond-false (same k x.geometry.member) true (any_of k (wide others)) (not_same k x.geometry.member n)
-
-  pub any_single : (k : Member) → x.geometry.ways ≤ 1 → any_of k (wide (kins_of (drop i es))) ≡ any_of k (wide others)
-  any_single k one = ap (any_of k) (wide_past one)
-
--- no line is left
-pub any_none : (k : Member) (es : List OpenLine) (i : ℕ) → length es ≤ i → any_of k (wide (kins_of (drop i es))) ≡ false
-any_none k es i h = ap (λ zs. any_of k (wide (kins_of zs))) (drop_all i es h)
+-- a search through the lines
+pub any_listed : (k : Member) (es : List OpenLine) → any_of k (wide (kins_of es)) ≡ list_any (wide_of k) es
+any_listed k [] = refl
+any_listed k (x ∷ es) = go (ltb 1 x.geometry.ways) refl (same k x.geometry.member) refl (any_listed k es)
+  where
+    go : (b : Bool) → ltb 1 x.geometry.ways ≡ b → (e : Bool) → same k x.geometry.member ≡ e → any_of k (wide (kins_of es)) ≡ list_any (wide_of k) es → any_of k (wide (kins_of (x ∷ es))) ≡ list_any (wide_of k) (x ∷ es)
+    go false one e _ rest = ap (any_of k) (wide_single (line_kin x) (kins_of es) (ltb-false 1 x.geometry.ways one)) ∙ rest ∙ rw one refl
+    go true two true s rest = ap (any_of k) (wide_more (line_kin x) (kins_of es) (ltb-true 1 x.geometry.ways two)) ∙ rw (two, s) refl
+    go true two false s rest = ap (any_of k) (wide_more (line_kin x) (kins_of es) (ltb-true 1 x.geometry.ways two)) ∙ rw (two, s) rest

@@ -1,5 +1,5 @@
 -- One call more of a list.
-use Rattle.std.proofs.Common.{◌≡◌, ℕ, suc, ◌+◌, ◌<◌, min, Bool, true, false, leb, List, [], ◌∷◌, ◌++◌, map, length, get_or, take, drop, set, Option, sym, refl, ap, ◌∙◌, arith}
+use Rattle.std.proofs.Common.{◌≡◌, ℕ, suc, ◌+◌, ◌<◌, min, Bool, true, false, leb, List, [], ◌∷◌, ◌++◌, map, length, get_or, take, drop, set, Result, sym, refl, ap, ◌∙◌, arith}
 use Rattle.std.proofs.lemmas.List.{append_assoc, drop_all, drop_more, length-map, length-take-le, map_push, map-set, set_at, take_all, take_more}
 use Rattle.std.proofs.lemmas.Bool.{leb-true, leb-false}
 use Rattle.policy.specs.Suite.{Suite}
@@ -28,7 +28,7 @@ module _ (s : Suite) (calls : List Call) (k : ℕ) (d : Call) (low : k < length 
   pub run_step : (b b' : Bench) → b ≡ bench_run s (spoken k calls) start → b' ≡ bench_after s (do_of (get_or calls k d)) b → b' ≡ bench_run s (spoken (k + 1) calls) start
   run_step b b' e a = a ∙ ap (bench_after s (do_of (get_or calls k d))) e ∙ sym (run_more s (spoken k calls) (do_of (get_or calls k d)) start) ∙ sym (ap (λ cs. bench_run s cs start) spoken_more)
 
-  pub answers_step : (xs xs₀ : List (Option Refused)) (a : Option Refused) (b : Bench) → k < length xs₀ → b ≡ bench_run s (spoken k calls) start → answer_of a ≡ bench_refusal s b (do_of (get_or calls k d))
+  pub answers_step : (xs xs₀ : List (Result Unit Refused)) (a : Result Unit Refused) (b : Bench) → k < length xs₀ → b ≡ bench_run s (spoken k calls) start → answer_of a ≡ bench_refusal s b (do_of (get_or calls k d))
       → map answer_of xs ≡ bench_answers s (spoken k calls) start ++ map answer_of (drop k xs₀)
       → map answer_of (set xs k a) ≡ bench_answers s (spoken (k + 1) calls) start ++ map answer_of (drop (k + 1) xs₀)
   answers_step xs xs₀ a b room e answered so_far =
@@ -43,7 +43,7 @@ module _ (s : Suite) (calls : List Call) (k : ℕ) (d : Call) (low : k < length 
       ∙ ap (λ zs. zs ++ map answer_of (drop (k + 1) xs₀)) (sym (answers_more s (spoken k calls) (do_of (get_or calls k d)) start) ∙ sym (ap (λ cs. bench_answers s cs start) spoken_more))
 
 -- as many calls as both lists have
-pub both_lists : (calls : List Call) (xs : List (Option Refused)) (k : ℕ) → k ≡ min (length calls) (length xs) → take k calls ≡ take (length xs) calls
+pub both_lists : (calls : List Call) (xs : List (Result Unit Refused)) (k : ℕ) → k ≡ min (length calls) (length xs) → take k calls ≡ take (length xs) calls
 both_lists calls xs k e = go (leb (length xs) (length calls)) refl
   where
     go : (b : Bool) → leb (length xs) (length calls) ≡ b → take k calls ≡ take (length xs) calls
@@ -52,7 +52,7 @@ both_lists calls xs k e = go (leb (length xs) (length calls)) refl
         let fewer = leb-false (length xs) (length calls) h in
         take_all k calls (omega (arith, e)) ∙ sym (take_all (length xs) calls (omega arith))
 
-pub rest_stays : (calls : List Call) (xs : List (Option Refused)) (k : ℕ) → k ≡ min (length calls) (length xs) → drop k xs ≡ drop (length calls) xs
+pub rest_stays : (calls : List Call) (xs : List (Result Unit Refused)) (k : ℕ) → k ≡ min (length calls) (length xs) → drop k xs ≡ drop (length calls) xs
 rest_stays calls xs k e = go (leb (length calls) (length xs)) refl
   where
     go : (b : Bool) → leb (length calls) (length xs) ≡ b → drop k xs ≡ drop (length calls) xs

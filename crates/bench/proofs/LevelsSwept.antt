@@ -13,7 +13,7 @@ use Rattle.bench.specs.Spans.{LevelSpan, LevelsFit, SpansLevels}
 use Rattle.bench.specs.Sweep.{and_then, levels_hit, skip, sweep_levels, visit_of}
 use Rattle.bench.specs.Table.{Level, levels_words}
 use Rattle.bench.specs.declared.open_line.OpenLine.{OpenLine}
-use Rattle.bench.specs.declared.rows.Place.{Place}
+use Rattle.bench.specs.declared.place.Place.{Place}
 use Rattle.bench.proofs.DoneParts.{done_skip, done_then, levels_true, visit-length}
 
 -- the first level of lines that are not empty

@@ -4,10 +4,8 @@ pub mod SweepSet
 pub mod Restrict
 pub mod RowWords
 pub mod SetRows
-pub mod GroupRows
 pub mod Hits
 pub mod VisitDone
-pub mod LevelRows
 pub mod InWindows
 pub mod LineKept
 pub mod Inclusion
@@ -40,5 +38,4 @@ pub mod KnownPass
 pub mod SameState
 pub mod AccessAsked
 pub mod Records
-pub mod Replies
 pub mod CallByCall

@@ -1,6 +1,6 @@
 -- A bench tracks the reference model from call to call: each call is refused by both or by neither, and where one passes, what the
 -- bench makes of it stands beside what it means. Here are a new bench and all calls but an access.
-use Rattle.std.proofs.Common.{◌≡◌, ℕ, zero, suc, ◌+◌, ◌<◌, ◌≤◌, Bool, true, false, leb, List, [], ◌∷◌, ◌++◌, map, length, get_or, drop, set, None, sym, refl, ap, ◌∙◌, subst, ap₂, arith}
+use Rattle.std.proofs.Common.{◌≡◌, ℕ, zero, suc, ◌+◌, ◌<◌, ◌≤◌, Bool, true, false, leb, List, [], ◌∷◌, ◌++◌, map, length, get_or, drop, set, None, sym, refl, ap, ◌∙◌, subst, ap₂, arith, Option}
 use Rattle.std.proofs.lemmas.List.{length-append, length-drop, length-map}
 use Rattle.std.proofs.lemmas.Bool.{leb-true}
 use Rattle.geometry.specs.Refusal.{ask}
@@ -70,7 +70,7 @@ module _ (s : Suite) (m : Model) (b : Bench) (T : BenchTracks s m b) where
   same_refusal frame = ap frame_refusal T.frames
 
   -- other windows, made alike on both sides
-  windows_track : (f : List Window → List Window) → Tracked s (length b.words) (with_windows (f m.windows) m) (record { state = window_state (f b.state.windows) b.state; words = b.words })
+  windows_track : (f : List (Option Window) → List (Option Window)) → Tracked s (length b.words) (with_windows (f m.windows) m) (record { state = window_state (f b.state.windows) b.state; words = b.words })
   windows_track f = (
     record {
       configs = T.configs;

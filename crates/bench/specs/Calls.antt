@@ -24,7 +24,7 @@ pub data Do : Type 0 where
 pub record Model : Type 0 where
   pub lines : List Line
   pub families : List FamilyModel
-  pub windows : List Window
+  pub windows : List (Option Window)
   pub accesses : ℕ
   pub uncached : ℕ
   pub frames : ℕ
@@ -48,7 +48,7 @@ abbrev pub accessed : Suite → Access → Model → Model
 accessed s x m = cond (cached m.windows x.address) (touched s x m) (passed_by m)
 
 -- other windows
-abbrev pub with_windows : List Window → Model → Model
+abbrev pub with_windows : List (Option Window) → Model → Model
 with_windows ws m = record { lines = m.lines; families = m.families; windows = ws; accesses = m.accesses; uncached = m.uncached; frames = m.frames }
 
 -- a flush starts all rows again and empties the direct-mapped caches; counts stay

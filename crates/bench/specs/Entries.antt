@@ -1,7 +1,5 @@
--- Lines that keep their own misses, and how misses are counted.
-use Rattle.std.specs.Prelude.{ℕ, ◌+◌, min, Bool, cond, List, [], ◌∷◌, map, slice_index, slice_set}
-use Rattle.bench.specs.Words.{Kin}
-use Rattle.bench.specs.declared.entry.Entry.{Entry}
+-- How misses are counted.
+use Rattle.std.specs.Prelude.{ℕ, ◌+◌, min, Bool, cond, List, [], ◌∷◌, slice_index, slice_set}
 
 -- one miss more of a kind, unless it is a hit; a count stops at 4,294,967,295, which no run reaches
 abbrev pub counted : ℕ → Bool → List ℕ → List ℕ
@@ -16,11 +14,3 @@ abbrev pub all_counted : ℕ → List Bool → List (List ℕ) → List (List �
 all_counted kind [] ms = ms
 all_counted kind (h ∷ hs) [] = []
 all_counted kind (h ∷ hs) (m ∷ ms) = counted kind h m ∷ all_counted kind hs ms
-
--- the policies and the ways of lines
-abbrev pub kin_of : List Entry → List Kin
-kin_of es = map (λ x. record { member = x.member; ways = x.ways }) es
-
--- the misses of each line, by kind
-abbrev pub misses_of : List Entry → List (List ℕ)
-misses_of es = map (λ x. x.misses) es

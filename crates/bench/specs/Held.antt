@@ -1,5 +1,5 @@
 -- What the code of a bench holds, as a state.
-use Rattle.std.specs.Prelude.{ℕ, List, take}
+use Rattle.std.specs.Prelude.{ℕ, List, length, take}
 use Rattle.bench.specs.Spans.{configs}
 use Rattle.bench.specs.State.{Bench, State}
 use Rattle.bench.specs.declared.open_line.OpenLine.{OpenLine}
@@ -8,12 +8,12 @@ use Rattle.bench.specs.declared.table.Table.{Table}
 
 -- the lines of a table that are in use
 abbrev pub lines_of : Table → List OpenLine
-lines_of t = take t.count t.lines
+lines_of t = t.lines.items
 
 abbrev pub state_of : Held → State
 state_of h = record {
   configs = configs (lines_of h.table);
-  misses = take h.table.count h.misses;
+  misses = take (length h.table.lines.items) h.misses;
   cached = h.tally.cached;
   last = h.last;
   windows = h.windows.table;

@@ -3,10 +3,9 @@ use Rattle.std.specs.Prelude.{◌≡◌, ℕ, ◌+◌, ◌*◌, Bool, true, cond
 use Rattle.bench.specs.Rows.{Stepped}
 use Rattle.bench.specs.Mixed.{Leads, Owned}
 use Rattle.bench.specs.Direct.{direct_after, direct_compared, direct_hit}
-use Rattle.bench.specs.Entries.{all_counted, capped, kin_of, misses_of}
+use Rattle.bench.specs.Entries.{all_counted, capped}
 use Rattle.bench.specs.Group.{sweep_at}
 use Rattle.bench.specs.Words.{Kin, lines_words, spread, wide, with_rows}
-use Rattle.bench.specs.declared.entry.Entry.{Entry}
 
 -- the words of a level: 2 a set for the direct-mapped cache, then the rows of its wider lines
 abbrev pub level_words : ℕ → List Kin → ℕ
@@ -38,13 +37,6 @@ miss_level f s i t ks ws = record {
 -- an access at a level: set i of s, with tag t
 abbrev pub visit : (Owned → ℕ → Leads → Stepped) → ℕ → ℕ → ℕ → List Kin → List ℕ → Visited
 visit f s i t ks ws = cond (direct_hit ws i t) (hit_level i ks ws) (miss_level f s i t ks ws)
-
--- lines and words before and after a visit, and the comparisons
-pub record LevelVisited (f : Owned → ℕ → Leads → Stepped) (s i t kind : ℕ) (lines : List Entry) (words : List ℕ) (lines' : List Entry) (words' : List ℕ) (comparisons : ℕ) : Type 0 where
-  pub rows : words' ≡ (visit f s i t (kin_of lines) words).words
-  pub misses : misses_of lines' ≡ all_counted kind (visit f s i t (kin_of lines) words).hits (misses_of lines)
-  pub kin : kin_of lines' ≡ kin_of lines
-  pub compared : comparisons ≡ capped (visit f s i t (kin_of lines) words).comparisons
 
 -- misses and words before and after, and the comparisons, are as v says
 pub record Done (v : Visited) (kind : ℕ) (ms ms' : List (List ℕ)) (words' : List ℕ) (comparisons : ℕ) : Type 0 where

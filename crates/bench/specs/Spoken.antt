@@ -24,11 +24,11 @@ abbrev pub spoken : ℕ → List Call → List Do
 spoken n calls = map do_of (take n calls)
 
 -- the number and the table line of an answer
-abbrev pub answer_of : Option Refused → Option No
-answer_of None = None
-answer_of (Some r) = Some (no_of r)
+abbrev pub answer_of : Result Unit Refused → Option No
+answer_of (Ok x) = None
+answer_of (Err r) = Some (no_of r)
 
--- and of a call that answers by itself
+-- and of one that is about no table line
 abbrev pub reply : Result Unit Refusal → Option No
 reply (Ok x) = None
 reply (Err e) = Some (record { number = refusal_number e; line = 0 })

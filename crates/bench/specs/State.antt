@@ -24,7 +24,7 @@ pub record State : Type 0 where
   pub cached : List ℕ
   -- the address of the last cached access since open or flush, if there is one
   pub last : Option ℕ
-  pub windows : List Window
+  pub windows : List (Option Window)
   pub accesses : ℕ
   pub uncached : ℕ
   pub frames : ℕ
@@ -112,7 +112,7 @@ pass_state b = record {
 abbrev pub access_state : Suite → Access → Bench → Bench
 access_state s x b = cond (cached b.state.windows x.address) (touch_state s x b) (record { state = pass_state b.state; words = b.words })
 
-abbrev pub window_state : List Window → State → State
+abbrev pub window_state : List (Option Window) → State → State
 window_state ws b = record {
   configs = b.configs;
   misses = b.misses;

@@ -1,23 +1,35 @@
 // What the nearest wider leader did in a sweep of one set.
-ghost use Rattle.std.specs.Prelude.{◌≤◌};
+ghost use Rattle.std.specs.Prelude.{◌≡◌};
+ghost use Rattle.bench.specs.Lead.{leads_seen};
+ghost use Rattle.bench.specs.Mixed.{no_leads};
+
+use arrayvec::ArrayVec;
 
 // A head word and at most 16 ways.
 pub(crate) const ROW_WORDS: usize = 17;
 
-// Whether there is a leader, whether it hit, its comparisons, and its row before the touch.
-#[derive(Clone, Copy)]
+// What its touch answered, and its row before the touch.
+#[derive(Drop)]
 pub(crate) struct Lead {
-    pub(crate) told: bool,
-    pub(crate) hit: bool,
-    pub(crate) place: usize,
-    pub(crate) before: [u32; ROW_WORDS],
-    pub(crate) words: usize,
-    ghost within: { words ≤ 17 },
+    pub(crate) answer: (bool, usize),
+    pub(crate) before: ArrayVec<u32, ROW_WORDS>,
 }
 
-// The nearest wider leaders of the two nesting policies.
-#[derive(Clone, Copy)]
+// The nearest wider leaders of the two nesting policies, where there are such.
+#[derive(Drop)]
 pub(crate) struct Leads {
-    pub(crate) first: Lead,
-    pub(crate) second: Lead,
+    pub(crate) first: Option<Lead>,
+    pub(crate) second: Option<Lead>,
+}
+
+impl Leads {
+    // Before the widest rows nothing is told.
+    pub(crate) fn none() -> Leads
+        ensures { leads_seen result ≡ no_leads }
+    {
+        Leads {
+            first: None,
+            second: None,
+        }
+    }
 }

@@ -20,7 +20,8 @@ fn row_words(geometry: &Geometry) -> usize
 
 // A span with one line before it.
 fn longer(span: &Span, words: usize) -> Span
-    requires { (span.now.lines < 64) × (words ≤ 327680) }
+    requires few { span.now.lines < 64 }
+    requires small { words ≤ 327680 }
     ensures lines { result.lines ≡ span.now.lines + 1 }
     ensures words { result.words ≡ span.now.words + words }
 {
@@ -48,7 +49,8 @@ impl OpenLine {
 
     // The line stands before others of which the first is `next`; answers the words that it adds to theirs.
     fn join(&mut self, next: &OpenLine) -> usize
-        requires { (next.now.level.lines < 64) × (next.now.family.lines < 64) }
+        requires level_few { next.now.level.lines < 64 }
+        requires family_few { next.now.family.lines < 64 }
         ensures geometry { self.new.geometry ≡ self.old.geometry }
         ensures joins { Joins self.old.geometry next.now self.new.level self.new.family result }
         ensures small { result ≤ 327680 }
@@ -73,17 +75,12 @@ pub(crate) fn link(lines: &mut [OpenLine]) -> usize
     requires { length lines.old ≤ 64 }
     ensures { Linked lines.old lines.new result }
 {
-    if lines.is_empty() {
+    let Some((first, later)) = lines.split_first_mut() else {
         return 0;
+    };
+    let words = link(later);
+    match later.first() {
+        None => first.stand_alone(),
+        Some(next) => words + first.join(next),
     }
-    let later = link(&mut lines[1..]);
-    let mut first = lines[0];
-    if lines.len() == 1 {
-        let words = first.stand_alone();
-        lines[0] = first;
-        return words;
-    }
-    let words = first.join(&lines[1]);
-    lines[0] = first;
-    later + words
 }

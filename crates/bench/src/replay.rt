@@ -2,46 +2,30 @@
 ghost use Rattle.std.specs.Prelude.{◌≡◌, ◌++◌, map, length, drop};
 ghost use Rattle.bench.specs.Called.{Called};
 ghost use Rattle.bench.specs.Held.{bench_of};
-ghost use Rattle.bench.specs.Spoken.{answer_of, do_of, reply, spoken};
+ghost use Rattle.bench.specs.Spoken.{answer_of, do_of, spoken};
 ghost use Rattle.bench.specs.State.{bench_answers, bench_run, new_bench};
 ghost use Rattle.bench.specs.Theorem.{OnePass};
 
 use crate::bench::Bench;
 use crate::call::Call;
 use crate::refused::Refused;
-use geometry::refusal::Refusal;
 use policy::suite::Suite;
 
-// A refusal that is about no table line.
-fn plain(answer: Result<(), Refusal>) -> Option<Refused>
-    ensures { answer_of result ≡ reply answer }
-{
-    match answer {
-        Ok(()) => None,
-        Err(refusal) => Some(Refused { refusal, line: 0 }),
-    }
-}
-
 impl<S: Suite> Bench<S> {
-    // Makes one call: nothing where it passed, or why it was refused.
-    pub fn call(&mut self, call: &Call, workspace: &mut [u32]) -> Option<Refused>
+    // Makes one call.
+    pub fn call(&mut self, call: &Call, workspace: &mut [u32]) -> Result<(), Refused>
         ensures { Called S.suite (do_of call.now) (bench_of self.old.held workspace.old) (bench_of self.new.held workspace.new) (answer_of result) }
     {
         match call {
-            Call::Flush => plain(self.flush(workspace)),
-            Call::Zero => {
-                self.zero();
-                None
-            }
-            Call::Frame => plain(self.frame()),
-            Call::Open(lines) => match self.open(lines, workspace) {
-                Ok(()) => None,
-                Err(refused) => Some(refused),
-            },
-            Call::Access(access) => plain(self.access(access, workspace)),
-            Call::Window { number, first, end } => plain(self.window(*number, *first, *end)),
-            Call::Off(number) => plain(self.off(*number)),
+            Call::Flush => self.flush(workspace)?,
+            Call::Zero => self.zero(),
+            Call::Frame => self.frame()?,
+            Call::Open(lines) => self.open(lines, workspace)?,
+            Call::Access(access) => self.access(access, workspace)?,
+            Call::Window { number, first, end } => self.window(*number, *first, *end)?,
+            Call::Off(number) => self.off(*number)?,
         }
+        Ok(())
     }
 }
 
@@ -51,7 +35,7 @@ pub fn replay<S: Suite>(
     policies: S,
     calls: &[Call],
     workspace: &mut [u32],
-    answers: &mut [Option<Refused>],
+    answers: &mut [Result<(), Refused>],
 ) -> Bench<S>
     ensures answers { map answer_of answers.new ≡ bench_answers S.suite (spoken (length answers.old) calls.now) (new_bench workspace.old) ++ map answer_of (drop (length calls.now) answers.old) }
     ensures bench { bench_of result.held workspace.new ≡ bench_run S.suite (spoken (length answers.old) calls.now) (new_bench workspace.old) }
@@ -59,6 +43,7 @@ pub fn replay<S: Suite>(
 {
     let mut bench = Bench::new(policies);
     let count = calls.len().min(answers.len());
+    // By index: after `iter_mut` in a chain a proof would know only the length of the answers.
     for k in 0..count {
         answers[k] = bench.call(&calls[k], workspace);
     }

@@ -1,11 +1,12 @@
 // One row of a nesting policy in a sweep.
-ghost use Rattle.std.specs.Prelude.{◌≡◌, ◌+◌, ◌<◌, ◌≤◌, true, length, None};
+ghost use Rattle.std.specs.Prelude.{◌≡◌, ◌<◌, ◌≤◌, length, None, Some};
 ghost use Rattle.policy.specs.Suite.{meaning, nest};
 ghost use Rattle.bench.specs.Lead.{lead_seen, lead_value};
 ghost use Rattle.bench.specs.Rows.{leave, step, step_alone, touch_leader};
 ghost use Rattle.bench.specs.Words.{slot_of, words_of};
 
 use crate::lead::Lead;
+use arrayvec::ArrayVec;
 use policy::suite::Suite;
 use policy::three::Member;
 
@@ -15,22 +16,22 @@ fn touch_leader<S: Suite>(
     member: Member,
     words: &mut [u32],
     tag: u32,
-    lead: &mut Lead,
+    lead: &mut Option<Lead>,
 ) -> (bool, usize)
-    requires { (1 < length words.old) × (length words.old ≤ 18) }
+    requires some { 1 < length words.old }
+    requires most { length words.old ≤ 18 }
     ensures hit { result.0 ≡ (touch_leader (meaning S.suite member) (slot_of words.old) tag).hit }
     ensures comparisons { result.1 ≡ (touch_leader (meaning S.suite member) (slot_of words.old) tag).comparisons }
     ensures words { words.new ≡ words_of (touch_leader (meaning S.suite member) (slot_of words.old) tag).slot }
     ensures lead { lead_seen lead.new ≡ (touch_leader (meaning S.suite member) (slot_of words.old) tag).lead }
 {
-    let count = words.len() - 1;
-    lead.before[0..count].copy_from_slice(&words[1..]);
-    lead.words = count;
-    let (hit, comparisons) = policies.touch(member, &mut words[1..], tag);
-    lead.told = true;
-    lead.hit = hit;
-    lead.place = comparisons;
-    (hit, comparisons)
+    let row = &mut words[1..];
+    let Ok(before) = ArrayVec::try_from(&*row) else {
+        unreachable!();
+    };
+    let answer = policies.touch(member, row, tag);
+    *lead = Some(Lead { answer, before });
+    answer
 }
 
 // Truncates a follower from its leader's row as it was before, touches it, and lets it lead.
@@ -39,19 +40,20 @@ fn leave_leader<S: Suite>(
     member: Member,
     words: &mut [u32],
     tag: u32,
-    lead: &mut Lead,
+    leader: &mut Lead,
 )
-    requires { (1 < length words.old) × (lead.old.told ≡ true) }
-    ensures words { words.new ≡ words_of (leave (meaning S.suite member) (nest S.suite member) (slot_of words.old) tag (lead_value lead.old)).slot }
-    ensures lead { lead_seen lead.new ≡ (leave (meaning S.suite member) (nest S.suite member) (slot_of words.old) tag (lead_value lead.old)).lead }
+    requires { 1 < length words.old }
+    ensures words { words.new ≡ words_of (leave (meaning S.suite member) (nest S.suite member) (slot_of words.old) tag (lead_value leader.old)).slot }
+    ensures lead { Some (lead_value leader.new) ≡ (leave (meaning S.suite member) (nest S.suite member) (slot_of words.old) tag (lead_value leader.old)).lead }
 {
-    let count = lead.words;
     words[0] = 0;
-    policies.truncate(member, &lead.before[0..count], &mut words[1..]);
-    let _ = policies.touch(member, &mut words[1..], tag);
-    lead.hit = false;
-    lead.place = 0;
-    lead.words = 0;
+    let row = &mut words[1..];
+    policies.truncate(member, &leader.before, row);
+    let _ = policies.touch(member, row, tag);
+    *leader = Lead {
+        answer: (false, 0),
+        before: ArrayVec::new(),
+    };
 }
 
 // Sweeps one row of a nesting policy, after its wider ones: whether it hit, and the comparisons that are reported.
@@ -60,9 +62,10 @@ pub(crate) fn step_row<S: Suite>(
     member: Member,
     words: &mut [u32],
     tag: u32,
-    lead: &mut Lead,
+    lead: &mut Option<Lead>,
 ) -> (bool, usize)
-    requires { (1 < length words.old) × (length words.old ≤ 18) }
+    requires some { 1 < length words.old }
+    requires most { length words.old ≤ 18 }
     ensures hit { result.0 ≡ (step (meaning S.suite member) (nest S.suite member) (slot_of words.old) tag (lead_seen lead.old)).hit }
     ensures comparisons { result.1 ≡ (step (meaning S.suite member) (nest S.suite member) (slot_of words.old) tag (lead_seen lead.old)).comparisons }
     ensures words { words.new ≡ words_of (step (meaning S.suite member) (nest S.suite member) (slot_of words.old) tag (lead_seen lead.old)).slot }
@@ -71,14 +74,18 @@ pub(crate) fn step_row<S: Suite>(
     if words[0] == 0 {
         return touch_leader(policies, member, words, tag, lead);
     }
-    if !lead.told || !lead.hit {
+    let Some(leader) = lead else {
+        return (false, 0);
+    };
+    let (hit, place) = leader.answer;
+    if !hit {
         return (false, 0);
     }
-    if lead.place <= words.len() - 2 {
+    if place <= words.len() - 2 {
         return (true, 0);
     }
     if !policies.keeps_nesting(member) {
-        leave_leader(policies, member, words, tag, lead);
+        leave_leader(policies, member, words, tag, leader);
     }
     (false, 0)
 }

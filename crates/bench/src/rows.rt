@@ -1,52 +1,55 @@
-// The rows of one set in the lines of one level, each of which keeps its own misses.
-ghost use Rattle.std.specs.Prelude.{◌≡◌, ◌<◌, ◌≤◌, length};
-ghost use Rattle.bench.specs.Entries.{kin_of};
-ghost use Rattle.bench.specs.Group.{RowsSwept};
+// The rows of one set in the lines of one level.
+ghost use Rattle.std.specs.Prelude.{◌≡◌, ◌≤◌, length};
+ghost use Rattle.geometry.specs.Kind.{kind_number};
+ghost use Rattle.bench.specs.OpenLines.{kins_of};
+ghost use Rattle.bench.specs.Group.{SetSwept};
 ghost use Rattle.bench.specs.Lead.{leads_seen};
 ghost use Rattle.bench.specs.Mixed.{no_leads, own_step};
 ghost use Rattle.bench.specs.Words.{lines_words, wide};
 
-use crate::entry::Entry;
 use crate::lead::Leads;
+use crate::level::Visit;
+use crate::miss::{Misses, count_miss};
+use crate::open_line::OpenLine;
 use crate::owned::step_owned;
 use policy::suite::Suite;
 
-// Where an access falls at a level: which of how many sets, with which tag, and its kind.
-#[derive(Clone, Copy)]
-pub(crate) struct Place {
-    pub(crate) sets: usize,
-    pub(crate) set: usize,
-    pub(crate) tag: u32,
-    pub(crate) kind: usize,
-}
-
-// Sweeps the rows of one set, the widest line first, and counts misses; answers the comparisons that are reported.
-pub(crate) fn sweep_rows<S: Suite>(
-    policies: &S,
-    lines: &mut [Entry],
-    words: &mut [u32],
-    at: Place,
-    leads: &mut Leads,
-) -> u64
-    requires { (lines_words at.sets (wide (kin_of lines.old)) ≤ length words.old) × ((at.set < at.sets) × ((at.kind < 3) × (leads_seen leads.old ≡ no_leads))) }
-    ensures { RowsSwept (own_step S.suite) at.sets at.set at.tag at.kind lines.old words.old lines.new words.new result (leads_seen leads.new) }
-{
-    if lines.is_empty() {
-        return 0;
+impl<S: Suite> Visit<'_, S> {
+    // Sweeps the rows of the set, the widest line first, and counts misses; answers the comparisons that are reported.
+    pub(crate) fn set(
+        &self,
+        lines: &[OpenLine],
+        misses: &mut [Misses],
+        words: &mut [u32],
+        leads: &mut Leads,
+    ) -> u64
+        requires long { length misses.old ≡ length lines.now }
+        requires room { lines_words self.now.place.sets (wide (kins_of lines.now)) ≤ length words.old }
+        requires fresh { leads_seen leads.old ≡ no_leads }
+        ensures { SetSwept (own_step S.suite) self.now.place.sets self.now.place.set self.now.place.tag (kind_number self.now.place.kind) (kins_of lines.now) misses.old words.old misses.new words.new result (leads_seen leads.new) }
+    {
+        let Some((line, lines)) = lines.split_first() else {
+            return 0;
+        };
+        let Some((mine, misses)) = misses.split_first_mut() else {
+            return 0;
+        };
+        let place = self.place;
+        let (member, ways) = (line.geometry.member, line.geometry.ways);
+        if ways <= 1 {
+            let compared = self.set(lines, misses, words, leads);
+            count_miss(mine, place.kind, false);
+            return compared;
+        }
+        let width = ways + 2;
+        let size = place.sets * width;
+        let (rows, words) = words.split_at_mut(size);
+        let wider = self.set(lines, misses, words, leads);
+        let from = place.set * width;
+        let to = from + width;
+        let row = &mut rows[from..to];
+        let (hit, compared) = step_owned(self.policies, member, row, place.tag, leads);
+        count_miss(mine, place.kind, hit);
+        wider.saturating_add(compared as u64)
     }
-    let ways = lines[0].ways;
-    let member = lines[0].member;
-    if ways <= 1 {
-        let compared = sweep_rows(policies, &mut lines[1..], words, at, leads);
-        lines[0].count(at.kind, false);
-        return compared;
-    }
-    let width = ways + 2;
-    let size = at.sets * width;
-    let wider = sweep_rows(policies, &mut lines[1..], &mut words[size..], at, leads);
-    let from = at.set * width;
-    let to = from + width;
-    let (hit, compared) = step_owned(policies, member, &mut words[from..to], at.tag, leads);
-    lines[0].count(at.kind, hit);
-    wider.saturating_add(compared as u64)
 }

@@ -1,31 +1,17 @@
 // The calls that take no workspace.
-ghost use Rattle.std.specs.Prelude.{◌≡◌, [], ◌∷◌, Some, None, MatchResult};
-ghost use Rattle.geometry.specs.Refusal.{refusal_number};
+ghost use Rattle.std.specs.Prelude.{◌≡◌, None};
 ghost use Rattle.bench.specs.Called.{CalledAlone, NewTracks};
 ghost use Rattle.bench.specs.Calls.{frame, off, window, zero};
 ghost use Rattle.bench.specs.Held.{bench_of, state_of};
+ghost use Rattle.bench.specs.Spoken.{reply};
 ghost use Rattle.bench.specs.State.{new_state};
 
 use crate::bench::Bench;
 use crate::held::{Held, Tally};
-use crate::table::Table;
+use crate::table::{MOST_LINES, Table};
 use crate::window::Windows;
 use geometry::refusal::Refusal;
 use policy::suite::Suite;
-
-// Nothing is counted but frames.
-pub(crate) fn no_counts(frames: u32) -> Tally
-    ensures cached { result.cached ≡ 0 ∷ 0 ∷ 0 ∷ [] }
-    ensures totals { (result.accesses ≡ 0) × (result.uncached ≡ 0) × (result.frames ≡ frames) × (result.comparisons ≡ 0) }
-{
-    Tally {
-        cached: [0; 3],
-        accesses: 0,
-        uncached: 0,
-        frames,
-        comparisons: 0,
-    }
-}
 
 impl<S: Suite> Bench<S> {
     // A bench without lines. Window 0 holds every address, and the others are off.
@@ -37,17 +23,17 @@ impl<S: Suite> Bench<S> {
             policies,
             held: Held {
                 table: Table::empty(),
-                misses: [[0; 3]; 64],
+                misses: [[0; 3]; MOST_LINES],
                 windows: Windows::new(),
                 last: None,
-                tally: no_counts(0),
+                tally: Tally::new(0),
             },
         }
     }
 
     // Sets a window, which is then on: it holds the addresses from `first` to the one before `end`.
     pub fn window(&mut self, number: u64, first: u64, end: u64) -> Result<(), Refusal>
-        ensures { MatchResult result (λ _. CalledAlone S.suite (window number first end) (bench_of self.old.held) (bench_of self.new.held) None) (λ e. CalledAlone S.suite (window number first end) (bench_of self.old.held) (bench_of self.new.held) (Some (record { number = refusal_number e; line = 0 }))) }
+        ensures { CalledAlone S.suite (window number first end) (bench_of self.old.held) (bench_of self.new.held) (reply result) }
     {
         if number > 7 {
             return Err(Refusal::WindowNumber);
@@ -64,7 +50,7 @@ impl<S: Suite> Bench<S> {
 
     // Puts a window off.
     pub fn off(&mut self, number: u64) -> Result<(), Refusal>
-        ensures { MatchResult result (λ _. CalledAlone S.suite (off number) (bench_of self.old.held) (bench_of self.new.held) None) (λ e. CalledAlone S.suite (off number) (bench_of self.old.held) (bench_of self.new.held) (Some (record { number = refusal_number e; line = 0 }))) }
+        ensures { CalledAlone S.suite (off number) (bench_of self.old.held) (bench_of self.new.held) (reply result) }
     {
         if number > 7 {
             return Err(Refusal::WindowNumber);
@@ -77,13 +63,13 @@ impl<S: Suite> Bench<S> {
     pub fn zero(&mut self)
         ensures { CalledAlone S.suite zero (bench_of self.old.held) (bench_of self.new.held) None }
     {
-        self.held.misses = [[0; 3]; 64];
-        self.held.tally = no_counts(self.held.tally.frames);
+        self.held.misses = [[0; 3]; MOST_LINES];
+        self.held.tally = Tally::new(self.held.tally.frames);
     }
 
     // One frame more.
     pub fn frame(&mut self) -> Result<(), Refusal>
-        ensures { MatchResult result (λ _. CalledAlone S.suite frame (bench_of self.old.held) (bench_of self.new.held) None) (λ e. CalledAlone S.suite frame (bench_of self.old.held) (bench_of self.new.held) (Some (record { number = refusal_number e; line = 0 }))) }
+        ensures { CalledAlone S.suite frame (bench_of self.old.held) (bench_of self.new.held) (reply result) }
     {
         if self.held.tally.frames >= 1_000_000 {
             return Err(Refusal::Frames);

@@ -1,19 +1,21 @@
 // The table of an open bench.
-ghost use Rattle.std.specs.Prelude.{◌≡◌, ◌≤◌, true, length, take};
+ghost use Rattle.std.specs.Prelude.{◌≡◌, ◌≤◌, true, length};
 ghost use Rattle.bench.specs.Joins.{linked};
 ghost use Rattle.bench.specs.Spans.{configs};
 ghost use Rattle.bench.specs.Table.{families, families_words};
 
 use crate::open_line::OpenLine;
+use arrayvec::ArrayVec;
 
-// The first `count` of the lines, which tell where their levels end, and the words that they need in a workspace.
-#[derive(Clone, Copy)]
+// The most lines that a table has.
+pub(crate) const MOST_LINES: usize = 64;
+
+// The lines, which tell where their levels end, and the words that they need in a workspace.
+#[derive(Drop)]
 pub(crate) struct Table {
-    pub(crate) lines: [OpenLine; 64],
-    pub(crate) count: usize,
+    pub(crate) lines: ArrayVec<OpenLine, MOST_LINES>,
     pub(crate) need: usize,
-    ghost room: { length lines ≡ 64 },
-    ghost few: { count ≤ 64 },
-    ghost spans: { linked (take count lines) ≡ true },
-    ghost needs: { need ≡ families_words (families (configs (take count lines))) },
+    ghost few: { length lines.items ≤ 64 },
+    ghost spans: { linked lines.items ≡ true },
+    ghost needs: { need ≡ families_words (families (configs lines.items)) },
 }

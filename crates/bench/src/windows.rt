@@ -1,15 +1,25 @@
 // What the windows hold, and how one of them is set.
 ghost use Rattle.std.specs.Prelude.{◌≡◌, ◌<◌, slice_set};
-ghost use Rattle.bench.specs.Window.{cached, holds, off_window, on_window, new_windows};
+ghost use Rattle.bench.specs.Window.{cached, holds, new_windows, off_window, on_and_holds, on_window};
 
 use crate::window::{Window, Windows};
 
 impl Window {
-    // Whether the window is on and holds the address.
+    // Whether the window holds the address.
     fn holds(&self, address: u64) -> bool
         ensures { result ≡ holds self.now address }
     {
-        self.on && self.first <= address && address < self.end
+        (self.first..self.end).contains(&address)
+    }
+}
+
+// Whether a window is on and holds the address.
+fn on_and_holds(window: &Option<Window>, address: u64) -> bool
+    ensures { result ≡ on_and_holds window.now address }
+{
+    match window {
+        Some(window) => window.holds(address),
+        None => false,
     }
 }
 
@@ -18,17 +28,11 @@ impl Windows {
     pub(crate) fn new() -> Windows
         ensures { result.table ≡ new_windows }
     {
-        let off = Window {
-            on: false,
-            first: 0,
-            end: 0,
-        };
-        let mut table = [off; 8];
-        table[0] = Window {
-            on: true,
+        let mut table = [None; 8];
+        table[0] = Some(Window {
             first: 0,
             end: 1 << 32,
-        };
+        });
         Windows { table }
     }
 
@@ -36,12 +40,9 @@ impl Windows {
     pub(crate) fn cached(&self, address: u64) -> bool
         ensures { result ≡ cached self.now.table address }
     {
-        for window in &self.table {
-            if window.holds(address) {
-                return true;
-            }
-        }
-        false
+        self.table
+            .iter()
+            .any(|window| on_and_holds(window, address))
     }
 
     // Sets a window, which is then on.
@@ -49,11 +50,7 @@ impl Windows {
         requires { number < 8 }
         ensures { self.new.table ≡ slice_set self.old.table number (on_window first end) }
     {
-        self.table[number] = Window {
-            on: true,
-            first,
-            end,
-        };
+        self.table[number] = Some(Window { first, end });
     }
 
     // Puts a window off.
@@ -61,10 +58,6 @@ impl Windows {
         requires { number < 8 }
         ensures { self.new.table ≡ slice_set self.old.table number off_window }
     {
-        self.table[number] = Window {
-            on: false,
-            first: 0,
-            end: 0,
-        };
+        self.table[number] = None;
     }
 }

@@ -1,6 +1,5 @@
 use Rattle.std.proofs.Common.{[], ◌∷◌}
 use Rattle.std.proofs.lemmas.Result.{err_from_is_err_and}
-use Rattle.policy.specs.Three.{three}
 use Rattle.geometry.specs.Line.{line_questions}
 use Rattle.geometry.specs.Refusal.{ask, refusal_number}
 use Rattle.geometry.proofs.Asked.{after_some}
@@ -14,6 +13,6 @@ returns-in_err-geometry g c =
     let out = err_from_is_err_and c.from_residual.result c.from_residual.ensures.1 in
     let line = c.args.line.now in
     record {
-      passes = rw (out.1, out.2) (after_some (line_questions p line) (ask 10 (in_order c.args.last.now line) ∷ []) (refusal_number c.in_err-geometry.field-0.0) c.in_err-geometry.ensures.passes);
+      passes = rw (out.1, out.2) (after_some (line_questions p line) (ask 10 (in_order c.args.last line) ∷ []) (refusal_number c.in_err-geometry.field-0.0) c.in_err-geometry.ensures.passes);
       geometry = rw out.1 tt;
     }

@@ -1,11 +1,9 @@
 use Rattle.std.proofs.Common.{◌≡◌, ◌<◌, min, ◌++◌, map, length, drop, ap, ◌∙◌, arith}
-use Rattle.policy.specs.Three.{three}
 use Rattle.bench.specs.Held.{bench_of}
 use Rattle.bench.specs.Spoken.{answer_of, do_of, spoken}
 use Rattle.bench.specs.State.{bench_answers, bench_run, new_bench}
 use Rattle.bench.specs.declared.call.Call.TheVariants.{Flush}
 use Rattle.bench.proofs.CallByCall.{answers_step, both_lists, rest_stays, run_step}
-use Rattle.policy.specs.SuiteLaws.{lawful}
 use Rattle.bench.proofs.TrackRun.{one_pass}
 use Rattle.bench.proofs.replay.replay.Goals as goal
 

@@ -1,5 +1,4 @@
 use Rattle.std.proofs.Common.{◌≡◌, ◌++◌, map, drop}
-use Rattle.policy.specs.Three.{three}
 use Rattle.bench.specs.Held.{bench_of}
 use Rattle.bench.specs.Spoken.{answer_of, spoken}
 use Rattle.bench.specs.State.{bench_answers, bench_run, new_bench}

@@ -1,6 +1,5 @@
 use Rattle.std.proofs.Common.{◌≡◌, ◌+◌, ◌-◌, ◌*◌, ◌≤◌, length, take, drop, ap, ◌∙◌, arith, rules}
 use Rattle.std.proofs.lemmas.List.{length-take, length-drop}
-use Rattle.policy.specs.Three.{three}
 use Rattle.standalone.proofs.Laid.{row_within, start_step}
 use Rattle.bench.specs.Started.{new_row}
 use Rattle.bench.proofs.start.start_line.Goals as goal

@@ -1,5 +1,4 @@
 use Rattle.std.proofs.Common.{◌≡◌, ◌+◌, ◌++◌, drop, replicate}
-use Rattle.policy.specs.Three.{three}
 use Rattle.standalone.specs.Rows.{laid}
 use Rattle.bench.specs.Started.{new_row}
 use Rattle.bench.specs.Words.{line_words}

@@ -1,12 +1,10 @@
 use Rattle.std.proofs.Common.{leb, [], length, refl, ap, arith}
 use Rattle.std.proofs.lemmas.Bool.{le-leb}
-use Rattle.policy.specs.Three.{three}
 use Rattle.geometry.proofs.Asked.{passes}
 use Rattle.bench.specs.Calls.{flush}
 use Rattle.bench.specs.Held.{bench_of}
 use Rattle.bench.specs.Opened.{at_line}
 use Rattle.bench.proofs.CallKept.{passed}
-use Rattle.policy.specs.SuiteLaws.{lawful}
 use Rattle.bench.proofs.SameState.{same_bench}
 use Rattle.bench.specs.State.{state_need}
 use Rattle.bench.proofs.bench.Bench.flush.Goals as goal

@@ -1,12 +1,10 @@
 use Rattle.std.proofs.Common.{◌≡◌, leb, [], ◌∷◌, map, length, Some, None, sym, refl, ap, ◌∙◌, arith}
 use Rattle.std.proofs.lemmas.List.{take-replicate, length-map}
 use Rattle.std.proofs.lemmas.Bool.{cond-true, le-leb}
-use Rattle.policy.specs.Three.{three}
 use Rattle.bench.specs.Calls.{open_table}
 use Rattle.bench.specs.Held.{bench_of}
 use Rattle.bench.specs.State.{no_misses}
 use Rattle.bench.proofs.CallKept.{passed}
-use Rattle.policy.specs.SuiteLaws.{lawful}
 use Rattle.bench.proofs.SameState.{count_is, same_bench}
 use Rattle.bench.specs.Held.{lines_of}
 use Rattle.bench.specs.Opened.{need, or_else, unless}
@@ -20,15 +18,15 @@ returns g c =
     let s = g.S.Suite.suite in
     let L = g.met.S.Suite.lawful in
     let h = c.args.self.now.held in
-    let E = c.no_counts-self.ensures in
+    let E = c.new-self.ensures in
     let t = c.in_ok-table.table in
     let lines = c.args.lines.now in
     let ws = c.args.workspace.now in
     let read = c.in_ok-table.ensures in
     let same : configs (lines_of t) ≡ map (config_of s.three) lines = read.configs in
-    let count : t.count ≡ length lines = sym (count_is t) ∙ ap length same ∙ length-map lines (config_of s.three) in
+    let count : length (lines_of t) ≡ length lines = sym (count_is t) ∙ ap length same ∙ length-map lines (config_of s.three) in
     let wanted : t.need ≡ need s.three lines = t.needs ∙ ap (λ cs. families_words (families cs)) same in
     let room : unless (leb (need s.three lines) (length ws)) 11 ≡ None = cond-true (leb (need s.three lines) (length ws)) None (Some (record { number = 11; line = 0 })) (le-leb _ _ (omega (arith, wanted, c.if-workspace-table.false))) in
     let passes_all = ap (λ o. or_else o (unless (leb (need s.three lines) (length ws)) 11)) read.passes ∙ room in
     passed s L (open_table lines) (bench_of h ws) _ passes_all
-    (same_bench same (take-replicate t.count 64 (0 ∷ 0 ∷ 0 ∷ []) t.few ∙ ap no_misses count) E.cached refl refl E.totals.0 E.totals.1 E.totals.2 E.totals.3 (c.start.ensures ∙ ap (λ cs. restarted s cs ws) same))
+    (same_bench same (take-replicate (length (lines_of t)) 64 (0 ∷ 0 ∷ 0 ∷ []) t.few ∙ ap no_misses count) E.cached refl refl E.accesses E.uncached E.frames E.comparisons (c.start.ensures ∙ ap (λ cs. restarted s cs ws) same))
