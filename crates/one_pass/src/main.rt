@@ -7,7 +7,9 @@ use policy::fifo::Fifo;
 use policy::lru::Lru;
 use policy::plru::Plru;
 use policy::standard::STANDARD;
+use policy::three::Policies;
 use standalone::access::{Access, Counts};
+use standalone::candidates::candidates;
 use standalone::known::six_reads;
 use standalone::run::run;
 
@@ -20,58 +22,6 @@ const TABLE_WORDS: usize = 120;
 // The direct-mapped cache of the level compares once for each read but the first.
 const DIRECT: u64 = 5;
 
-const CANDIDATES: [Line; 6] = [
-    Line {
-        letter: b'F',
-        sets: 4,
-        block: 16,
-        ways: 2,
-    },
-    Line {
-        letter: b'F',
-        sets: 4,
-        block: 16,
-        ways: 3,
-    },
-    Line {
-        letter: b'L',
-        sets: 4,
-        block: 16,
-        ways: 2,
-    },
-    Line {
-        letter: b'L',
-        sets: 4,
-        block: 16,
-        ways: 3,
-    },
-    Line {
-        letter: b'P',
-        sets: 4,
-        block: 16,
-        ways: 2,
-    },
-    Line {
-        letter: b'P',
-        sets: 4,
-        block: 16,
-        ways: 4,
-    },
-];
-
-fn policy_name(letter: u8) -> &'static str {
-    match letter {
-        b'F' => "FIFO",
-        b'L' => "LRU",
-        _ => "tree PLRU",
-    }
-}
-
-// The sum of the counts of fetches, reads and stores.
-fn total(counts: [u32; 3]) -> u64 {
-    u64::from(counts[0]) + u64::from(counts[1]) + u64::from(counts[2])
-}
-
 // The comparisons of a candidate that is run alone, or 0 where it is refused.
 fn alone(line: &Line, trace: &[Access]) -> u64 {
     let mut memory = [0; WORDS];
@@ -82,49 +32,40 @@ fn alone(line: &Line, trace: &[Access]) -> u64 {
 }
 
 // The comparisons of all candidates alone, with the direct-mapped cache of their level.
-fn separate(trace: &[Access]) -> u64 {
-    let mut comparisons = DIRECT;
-    for line in &CANDIDATES {
-        comparisons = comparisons.saturating_add(alone(line, trace));
-    }
-    comparisons
-}
-
-// Opens the table of all candidates, and makes the accesses.
-fn sweep(bench: &mut Bench<Fifo, Lru, Plru>, trace: &[Access], workspace: &mut [u32]) {
-    let _ = bench.open(&CANDIDATES, workspace);
-    for access in trace {
-        let _ = bench.access(access, workspace);
-    }
+fn separate(lines: &[Line], trace: &[Access]) -> u64 {
+    lines
+        .iter()
+        .map(|line| alone(line, trace))
+        .fold(DIRECT, u64::saturating_add)
 }
 
 // All candidates in one pass: their counts, and the comparisons of the pass.
-fn one_pass(trace: &[Access]) -> ([Counts; 6], u64) {
+fn one_pass(lines: &[Line; 6], trace: &[Access]) -> ([Counts; 6], u64) {
     let mut workspace = [0; TABLE_WORDS];
     let mut bench = Bench::new(STANDARD);
-    sweep(&mut bench, trace, &mut workspace);
-    let none = Counts {
-        misses: [0; 3],
-        hits: [0; 3],
-    };
-    let mut counts = [none; 6];
+    let _ = bench.open(lines, &mut workspace);
+    for access in trace {
+        let _ = bench.access(access, &mut workspace);
+    }
+    let mut counts = [Counts::default(); 6];
     let _ = bench.counts(&mut counts);
     (counts, bench.totals().comparisons)
 }
 
 // What one pass counts, and what it saves.
 fn show(rt: &HostRuntime, trace: &[Access]) -> anyhow::Result<()> {
-    let (counts, comparisons) = one_pass(trace);
+    let candidates = candidates();
+    let lines = candidates.map(|candidate| candidate.line);
+    let (counts, comparisons) = one_pass(&lines, trace);
     println!(rt; "In one pass over the reads:")?;
-    for k in 0..6 {
-        let line = CANDIDATES[k];
-        let name = policy_name(line.letter);
-        let ways = line.ways;
-        let hits = total(counts[k].hits);
-        let misses = total(counts[k].misses);
-        println!(rt; "  {name} with {ways} ways: {hits} hits, {misses} misses")?;
+    for (candidate, counts) in candidates.iter().zip(&counts) {
+        let policy = candidate.policy;
+        let ways = candidate.line.ways;
+        let hits = counts.all_hits();
+        let misses = counts.all_misses();
+        println!(rt; "  {policy} with {ways} ways: {hits} hits, {misses} misses")?;
     }
-    let alone = separate(trace);
+    let alone = separate(&lines, trace);
     let saved = alone.saturating_sub(comparisons);
     println!(rt;
         "It made {comparisons} comparisons, and the separate caches make {alone}: {saved} are saved."

@@ -6,6 +6,7 @@ use Rattle.policy.specs.Standard.{standard}
 use Rattle.policy.specs.Three.{policy_of}
 use Rattle.policy.specs.declared.three.Member.{Member}
 use Rattle.policy.specs.declared.three.Member.TheVariants.{First, Second, Further}
+use Rattle.geometry.specs.declared.line.Line.{Line}
 use Rattle.standalone.specs.Cache.{Cache, new_cache, accessed, touch_of, run}
 use Rattle.standalone.specs.declared.access.Access.{Access}
 
@@ -16,6 +17,14 @@ read address = record { kind = 1; address = address }
 -- in hexadecimal 1d0, 210, 250, 1d0, 190, 1d0
 abbrev pub six_reads : List Access
 six_reads = map read (0x1d0 ∷ 0x210 ∷ 0x250 ∷ 0x1d0 ∷ 0x190 ∷ 0x1d0 ∷ [])
+
+-- a cache of 4 sets of 16-byte blocks
+abbrev pub four_sets : ℕ → ℕ → Line
+four_sets letter ways = record { block = 16; sets = 4; letter = letter; ways = ways }
+
+-- FIFO (70), LRU (76) and tree PLRU (80), each with two numbers of ways
+abbrev pub six_lines : List Line
+six_lines = four_sets 70 2 ∷ four_sets 70 3 ∷ four_sets 76 2 ∷ four_sets 76 3 ∷ four_sets 80 2 ∷ four_sets 80 4 ∷ []
 
 -- blocks 1, 2, 1, 3, 1, 4 of 16 bytes
 abbrev pub six_blocks : List Access

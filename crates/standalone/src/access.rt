@@ -1,5 +1,5 @@
 // An access, and counts by its kind.
-ghost use Rattle.std.specs.Prelude.{◌≡◌, ◌+◌, ◌^◌, ◌<◌, if◌then◌else◌, slice_index};
+ghost use Rattle.std.specs.Prelude.{◌≡◌, ◌+◌, ◌^◌, ◌<◌, if◌then◌else◌, slice_index, sum};
 ghost use Rattle.geometry.specs.Kind.{kind_number};
 ghost use Rattle.standalone.specs.Checked.{CheckedAs};
 ghost use Rattle.standalone.specs.Counting.{one_more};
@@ -43,6 +43,20 @@ pub struct Counts {
 }
 
 impl Counts {
+    // The misses of all kinds.
+    pub fn all_misses(&self) -> u64
+        ensures { result ≡ sum self.now.misses }
+    {
+        self.misses.iter().map(|count| u64::from(*count)).sum()
+    }
+
+    // The hits of all kinds.
+    pub fn all_hits(&self) -> u64
+        ensures { result ≡ sum self.now.hits }
+    {
+        self.hits.iter().map(|count| u64::from(*count)).sum()
+    }
+
     // One hit or miss more of a kind.
     pub(crate) fn add(&mut self, kind: AccessKind, hit: bool)
         requires misses_fit { slice_index self.old.misses (kind_number kind) + 1 < 2 ^ 32 }

@@ -3,5 +3,6 @@
 
 pub mod access;
 mod cache;
+pub mod candidates;
 pub mod known;
 pub mod run;
