@@ -1,72 +1,43 @@
 // Reads lines and jobs, good and bad, and compares each answer with what it must be.
 #![tactic(auto)]
 
+mod answer;
 mod case;
+mod escape;
 mod shown;
 
-use anyhow::anyhow;
-use case::Case;
-use jobtext::read::read_line;
-use shown::{job_in_words, line_in_words};
-use std::io::{Read, Write};
+use answer::Answer;
+use anyhow::ensure;
+use case::{Case, Sort};
+use std::io::Read;
 
-#[derive(Clone, Copy)]
+#[derive(Clone, Copy, Default)]
 struct Tally {
     lines: u64,
     jobs: u64,
     wrong: u64,
 }
 
-fn read_in_words(rt: &HostRuntime, text: &[u8]) -> anyhow::Result<String> {
-    match read_line(text) {
-        Ok(line) => Ok(line_in_words(rt.alloc(), &line)?),
-        Err(refusal) => {
-            let number = refusal.number();
-            Ok(format!(in rt.alloc(); "refused {number}")?)
-        }
-    }
-}
-
-fn answer_to(rt: &HostRuntime, case: &Case) -> anyhow::Result<String> {
-    if case.job {
-        return Ok(job_in_words(rt.alloc(), case.text.as_slice())?);
-    }
-    read_in_words(rt, case.text.as_slice())
-}
-
 // Counts the case, and prints it where the answer is wrong.
 fn judge(rt: &HostRuntime, case: &Case, tally: &mut Tally) -> anyhow::Result<()> {
-    if case.job {
-        tally.jobs = tally.jobs.saturating_add(1);
-    } else {
-        tally.lines = tally.lines.saturating_add(1);
+    match case.sort {
+        Sort::Line => tally.lines = tally.lines.saturating_add(1),
+        Sort::Job => tally.jobs = tally.jobs.saturating_add(1),
     }
-    let answer = answer_to(rt, case)?;
-    if answer.as_bytes() != case.answer.as_slice() {
+    let answer = Answer::to(case).to_string(rt.alloc())?;
+    if answer.as_str() != case.answer {
         tally.wrong = tally.wrong.saturating_add(1);
-        rt.stdout().write_all(b"expected: ")?;
-        rt.stdout().write_all(case.answer.as_slice())?;
-        rt.stdout().write_all(b"\ngot: ")?;
-        rt.stdout().write_all(answer.as_bytes())?;
-        rt.stdout().write_all(b"\n")?;
+        println!(rt; "expected: {}\ngot: {answer}", case.answer)?;
     }
     Ok(())
 }
 
 fn judge_all(rt: &HostRuntime) -> anyhow::Result<Tally> {
-    let mut input = Vec::new(rt.alloc());
-    rt.stdin().read_to_end(&mut input)?;
-    let mut tally = Tally {
-        lines: 0,
-        jobs: 0,
-        wrong: 0,
-    };
-    let mut case = Case::new(rt.alloc());
-    for byte in input.iter() {
-        if case.feed(*byte)? {
-            judge(rt, &case, &mut tally)?;
-            case.clear();
-        }
+    let mut input = String::new(rt.alloc());
+    rt.stdin().read_to_string(&mut input)?;
+    let mut tally = Tally::default();
+    for line in input.lines() {
+        judge(rt, &Case::parse(rt.alloc(), line)?, &mut tally)?;
     }
     Ok(tally)
 }
@@ -77,9 +48,7 @@ fn try_all(rt: &HostRuntime) -> anyhow::Result<()> {
     println!(rt; "lines: {lines} cases")?;
     println!(rt; "jobs: {jobs} cases")?;
     println!(rt; "wrong answers: {wrong}")?;
-    if wrong > 0 {
-        return Err(anyhow!("an answer is wrong"));
-    }
+    ensure!(wrong == 0, "an answer is wrong");
     Ok(())
 }
 

@@ -1,8 +1,7 @@
-// Answers of the reader in words.
+// Records and faults in words.
 use jobtext::fault::Fault;
-use jobtext::reader::Reader;
-use jobtext::record::{AccessKind, Record, TextLine};
-use std::alloc::{AllocError, Global};
+use jobtext::record::{AccessKind, Record};
+use std::{fmt, str};
 
 fn kind_name(kind: AccessKind) -> &'static str {
     match kind {
@@ -12,72 +11,48 @@ fn kind_name(kind: AccessKind) -> &'static str {
     }
 }
 
-fn record_in_words(heap: Global, record: &Record) -> Result<String, AllocError> {
-    match record {
-        Record::Table {
-            letter,
-            sets,
-            block,
-            ways,
-        } => {
-            let letter = *letter as char;
-            let (sets, block, ways) = (sets.value(), block.value(), ways.value());
-            format!(in heap; "table {letter} {sets} {block} {ways}")
-        }
-        Record::Open => format!(in heap; "open"),
-        Record::Access { kind, address } => {
-            let name = kind_name(*kind);
-            let address = address.value();
-            format!(in heap; "{name} {address}")
-        }
-        Record::Window { number, first, end } => {
-            let (number, first, end) = (number.value(), first.value(), end.value());
-            format!(in heap; "window {number} from {first} to {end}")
-        }
-        Record::Off { number } => {
-            let number = number.value();
-            format!(in heap; "off {number}")
-        }
-        Record::Frame => format!(in heap; "frame"),
-        Record::Flush => format!(in heap; "flush"),
-        Record::Zero => format!(in heap; "zero"),
-        Record::Comment(text) => {
-            let length = text.len();
-            format!(in heap; "comment of {length}")
-        }
-    }
-}
+#[derive(Clone, Copy)]
+pub struct InWords<'a>(pub &'a Record<'a>);
 
-pub fn line_in_words(heap: Global, line: &TextLine) -> Result<String, AllocError> {
-    let record = record_in_words(heap, &line.record)?;
-    let length = line.length;
-    format!(in heap; "{record}, {length} bytes")
-}
-
-// The fault line without its line feed.
-pub fn fault_in_words(heap: Global, fault: &Fault) -> Result<String, AllocError> {
-    let mut line = [0; 80];
-    let mut words = String::new(heap);
-    if let Ok(length) = fault.write(&mut line) {
-        for byte in line.iter().take(length) {
-            if *byte != b'\n' && *byte < 128 {
-                words.push(*byte as char)?;
+impl fmt::Display for InWords<'_> {
+    fn fmt<W: fmt::Write>(&self, f: &mut fmt::Formatter<W>) -> fmt::Result {
+        match self.0 {
+            Record::Table {
+                letter,
+                sets,
+                block,
+                ways,
+            } => {
+                let letter = char::from(*letter);
+                let (sets, block, ways) = (sets.value(), block.value(), ways.value());
+                write!(f, "table {letter} {sets} {block} {ways}")
             }
+            Record::Open => write!(f, "open"),
+            Record::Access { kind, address } => {
+                write!(f, "{} {}", kind_name(*kind), address.value())
+            }
+            Record::Window { number, first, end } => {
+                let (number, first, end) = (number.value(), first.value(), end.value());
+                write!(f, "window {number} from {first} to {end}")
+            }
+            Record::Off { number } => write!(f, "off {}", number.value()),
+            Record::Frame => write!(f, "frame"),
+            Record::Flush => write!(f, "flush"),
+            Record::Zero => write!(f, "zero"),
+            Record::Comment(text) => write!(f, "comment of {}", text.len()),
         }
     }
-    Ok(words)
 }
 
-// How reading a job ends.
-pub fn job_in_words(heap: Global, text: &[u8]) -> Result<String, AllocError> {
-    let mut reader = Reader::new();
-    let mut at = 0;
-    for _ in 0..text.len() {
-        match reader.step(text.get(at..).unwrap_or(&[])) {
-            Ok(Some(line)) => at = line.length.saturating_add(at),
-            Ok(None) => break,
-            Err(fault) => return fault_in_words(heap, &fault),
-        }
+// The line of a fault, without its line feed.
+#[derive(Clone, Copy)]
+pub struct FaultLine<'a>(pub &'a Fault);
+
+impl fmt::Display for FaultLine<'_> {
+    fn fmt<W: fmt::Write>(&self, f: &mut fmt::Formatter<W>) -> fmt::Result {
+        let mut buffer = [0; 80];
+        let length = self.0.write(&mut buffer).map_err(|_| fmt::Error)?;
+        let line = str::from_utf8(buffer.get(..length).unwrap_or(&[])).map_err(|_| fmt::Error)?;
+        write!(f, "{}", line.trim_end_matches('\n'))
     }
-    String::from_str(heap, "read to the end")
 }

@@ -1,6 +1,7 @@
 // Calls at the borders of what is refused, with the number that each must give.
 use geometry::line::Line;
 use standalone::access::Access;
+use std::fmt;
 
 // Words that suffice for every line here that runs.
 const ROOM: usize = 65536;
@@ -10,39 +11,30 @@ const READ: Access = Access {
     address: 64,
 };
 
-const LAST_KIND: Access = Access {
-    kind: 2,
-    address: 64,
-};
+const LAST_KIND: Access = Access { kind: 2, ..READ };
 
-const BAD_KIND: Access = Access {
-    kind: 3,
-    address: 64,
-};
+const BAD_KIND: Access = Access { kind: 3, ..READ };
 
-const LARGE_KIND: Access = Access {
-    kind: 255,
-    address: 64,
-};
+const LARGE_KIND: Access = Access { kind: 255, ..READ };
 
 const LAST_ADDRESS: Access = Access {
-    kind: 1,
     address: 4294967295,
+    ..READ
 };
 
 const BAD_ADDRESS: Access = Access {
-    kind: 1,
     address: 4294967296,
+    ..READ
 };
 
 const LONG_ADDRESS: Access = Access {
-    kind: 1,
     address: 9999999999,
+    ..READ
 };
 
 const BAD_BOTH: Access = Access {
     kind: 3,
-    address: 4294967296,
+    ..BAD_ADDRESS
 };
 
 #[derive(Clone, Copy)]
@@ -50,21 +42,11 @@ pub struct Case {
     pub line: Line,
     pub words: usize,
     pub accesses: &'static [Access],
-    // the number of the refusal, or none where the call must run
+    // the number that the refusal has for a user, and so stays a number here; none where the call must run
     pub number: Option<u8>,
 }
 
 impl Case {
-    fn refused(number: u8, line: Line) -> Case {
-        let number = Some(number);
-        Case {
-            line,
-            words: ROOM,
-            accesses: &[READ],
-            number,
-        }
-    }
-
     fn runs(line: Line) -> Case {
         Case {
             line,
@@ -74,12 +56,41 @@ impl Case {
         }
     }
 
+    fn refused(number: u8, line: Line) -> Case {
+        Case {
+            number: Some(number),
+            ..Case::runs(line)
+        }
+    }
+
     fn over(self, accesses: &'static [Access]) -> Case {
         Case { accesses, ..self }
     }
 
     fn within(self, words: usize) -> Case {
         Case { words, ..self }
+    }
+}
+
+impl fmt::Display for Case {
+    fn fmt<W: fmt::Write>(&self, f: &mut fmt::Formatter<W>) -> fmt::Result {
+        let Case {
+            line,
+            words,
+            accesses,
+            number,
+        } = self;
+        let Line {
+            letter,
+            sets,
+            block,
+            ways,
+        } = line;
+        let letter = char::from(*letter);
+        write!(
+            f,
+            "{letter} {sets} {block} {ways} in {words} words over {accesses:?}: expected {number:?}"
+        )
     }
 }
 

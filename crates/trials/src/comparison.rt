@@ -1,18 +1,16 @@
 // The library's run of a trial, held to what the simulator says.
 use crate::event::Event;
+use crate::set::Set;
+use crate::shape::Shape;
 use crate::simulator::Simulator;
 use crate::tally::Tally;
 use crate::trial::Trial;
 use crate::words::first_difference;
-use geometry::line::Line;
-use policy::fifo::Fifo;
-use policy::lru::Lru;
-use policy::plru::Plru;
 use policy::standard::STANDARD;
-use policy::three::Policies;
 use standalone::access::Access;
 use standalone::run::run;
 use std::alloc::{AllocError, Global};
+use std::fmt;
 
 // What must come of a trial: the counts, and the words of all rows.
 #[derive(Drop)]
@@ -23,8 +21,12 @@ pub struct Expected {
 
 impl Expected {
     // What the simulator makes of the events.
-    pub fn of(heap: Global, trial: &Trial, events: &[Event]) -> Result<Expected, AllocError> {
-        let mut simulator = Simulator::new(heap, trial.rule, trial.shape)?;
+    pub fn of<S: Set>(
+        heap: Global,
+        shape: Shape,
+        events: &[Event],
+    ) -> Result<Expected, AllocError> {
+        let mut simulator = Simulator::<S>::new(heap, shape)?;
         let tally = simulator.run(events)?;
         let words = simulator.words(heap)?;
         Ok(Expected { tally, words })
@@ -33,53 +35,46 @@ impl Expected {
     // The memory afterwards: the rows, and behind them what was there before.
     fn memory(&self, before: &[u32]) -> Result<Vec<u32>, AllocError> {
         let mut memory = self.words.clone()?;
-        for word in before.iter().skip(self.words.len()) {
-            memory.push(*word)?;
-        }
+        memory.extend(before.iter().skip(self.words.len()).copied())?;
         Ok(memory)
     }
 }
 
-fn compare_counts(
-    rt: &HostRuntime,
-    trial: &Trial,
-    what: &str,
-    expected: [u32; 3],
-    got: [u32; 3],
-) -> anyhow::Result<u32> {
-    if expected == got {
-        return Ok(0);
-    }
-    println!(rt; "{trial}: {what}: expected {expected:?}, got {got:?}")?;
-    Ok(1)
+// The answers of a trial that are not as expected.
+#[derive(Drop)]
+struct Differences<'a> {
+    rt: &'a HostRuntime,
+    trial: &'a Trial,
+    count: u32,
 }
 
-fn compare_comparisons(
-    rt: &HostRuntime,
-    trial: &Trial,
-    expected: u64,
-    got: u64,
-) -> anyhow::Result<u32> {
-    if expected == got {
-        return Ok(0);
+impl Differences<'_> {
+    // Counts and prints an answer, if it differs.
+    fn compare<T: PartialEq + fmt::Debug>(
+        &mut self,
+        what: impl fmt::Display + Drop,
+        expected: &T,
+        got: &T,
+    ) -> anyhow::Result<()> {
+        if expected != got {
+            let trial = self.trial;
+            println!(self.rt; "{trial}: {what}: expected {expected:?}, got {got:?}")?;
+            self.count = self.count.saturating_add(1);
+        }
+        Ok(())
     }
-    println!(rt; "{trial}: comparisons: expected {expected}, got {got}")?;
-    Ok(1)
-}
 
-fn compare_memory(
-    rt: &HostRuntime,
-    trial: &Trial,
-    expected: &[u32],
-    got: &[u32],
-) -> anyhow::Result<u32> {
-    let Some(place) = first_difference(expected, got) else {
-        return Ok(0);
-    };
-    let wanted = expected.get(place).copied();
-    let found = got.get(place).copied();
-    println!(rt; "{trial}: word {place}: expected {wanted:?}, got {found:?}")?;
-    Ok(1)
+    // Counts and prints the first word that differs.
+    fn compare_memory(&mut self, expected: &[u32], got: &[u32]) -> anyhow::Result<()> {
+        match first_difference(expected, got) {
+            Some(place) => self.compare(
+                format_args!("word {place}"),
+                &expected.get(place),
+                &got.get(place),
+            ),
+            None => Ok(()),
+        }
+    }
 }
 
 // Runs the library in a memory that holds these words: how many answers differ.
@@ -88,22 +83,22 @@ pub fn compare(
     trial: &Trial,
     accesses: &[Access],
     expected: &Expected,
-    before: &Vec<u32>,
+    before: &[u32],
 ) -> anyhow::Result<u32> {
-    let mut memory = before.clone()?;
+    let mut memory = before.to_vec(rt.alloc())?;
     match run(&STANDARD, &trial.line(), accesses, &mut memory) {
         Ok((counts, comparisons)) => {
             let tally = expected.tally;
-            let misses = compare_counts(rt, trial, "misses", tally.misses, counts.misses)?;
-            let hits = compare_counts(rt, trial, "hits", tally.hits, counts.hits)?;
-            let compared = compare_comparisons(rt, trial, tally.comparisons, comparisons)?;
-            let rows = compare_memory(rt, trial, &expected.memory(before)?, &memory)?;
-            Ok(
-                misses
-                    .saturating_add(hits)
-                    .saturating_add(compared)
-                    .saturating_add(rows),
-            )
+            let mut differences = Differences {
+                rt,
+                trial,
+                count: 0,
+            };
+            differences.compare("misses", &tally.misses, &counts.misses)?;
+            differences.compare("hits", &tally.hits, &counts.hits)?;
+            differences.compare("comparisons", &tally.comparisons, &comparisons)?;
+            differences.compare_memory(&expected.memory(before)?, &memory)?;
+            Ok(differences.count)
         }
         Err(refusal) => {
             let number = refusal.number();

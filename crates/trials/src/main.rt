@@ -5,6 +5,7 @@ mod campaign;
 mod cases;
 mod comparison;
 mod event;
+mod figures;
 mod generator;
 mod refusals;
 mod set;
@@ -18,38 +19,22 @@ mod trial;
 mod words;
 
 use crate::campaign::try_rule;
-use crate::refusals::try_borders;
-use crate::set::Rule;
-use anyhow::anyhow;
-
-fn name_of(rule: Rule) -> &'static str {
-    match rule {
-        Rule::Fifo => "FIFO",
-        Rule::Lru => "LRU",
-        Rule::Tree => "tree PLRU",
-    }
-}
+use crate::refusals::{Borders, try_borders};
+use crate::set::Set;
+use crate::stamped::{Fifo, Lru, StampedSet};
+use crate::tree::TreeSet;
+use anyhow::ensure;
 
 // Whether all trials of a rule agree; prints what they came to.
-fn agrees(rt: &HostRuntime, rule: Rule) -> anyhow::Result<bool> {
-    let figures = try_rule(rt, rule)?;
-    let name = name_of(rule);
-    let runs = figures.runs;
-    let accesses = figures.accesses;
-    let hits = figures.hits;
-    let replaced = figures.replaced;
-    let differences = figures.differences;
-    println!(rt;
-        "{name}: {runs} runs, {accesses} accesses with {hits} hits and {replaced} replacements, {differences} differences"
-    )?;
-    Ok(differences == 0)
+fn agrees<S: Set>(rt: &HostRuntime) -> anyhow::Result<bool> {
+    let figures = try_rule::<S>(rt)?;
+    println!(rt; "{}: {figures}", S::NAME)?;
+    Ok(figures.differences == 0)
 }
 
 // Whether every call at a border answers as it must; prints how many do not.
 fn refuses(rt: &HostRuntime) -> anyhow::Result<bool> {
-    let borders = try_borders(rt)?;
-    let cases = borders.cases;
-    let wrong = borders.wrong;
+    let Borders { cases, wrong } = try_borders(rt)?;
     println!(rt; "refusals: {cases} cases, {wrong} wrong")?;
     Ok(wrong == 0)
 }
@@ -62,16 +47,12 @@ fn try_all(rt: &HostRuntime) -> anyhow::Result<()> {
     println!(rt;
         "in a memory that is clear and just suffices, and in a longer one that was used before."
     )?;
-    let mut sound = true;
-    for rule in [Rule::Fifo, Rule::Lru, Rule::Tree] {
-        sound &= agrees(rt, rule)?;
-    }
+    let mut sound = agrees::<StampedSet<Fifo>>(rt)?;
+    sound &= agrees::<StampedSet<Lru>>(rt)?;
+    sound &= agrees::<TreeSet>(rt)?;
     sound &= refuses(rt)?;
-    if sound {
-        Ok(())
-    } else {
-        Err(anyhow!("the library and the simulator differ"))
-    }
+    ensure!(sound, "the library and the simulator differ");
+    Ok(())
 }
 
 fn main(rt: HostRuntime) -> anyhow::Result<()> {

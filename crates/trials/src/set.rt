@@ -1,43 +1,23 @@
-// One set of a simulated cache, of any rule.
-use crate::stamped::StampedSet;
+// One set of a simulated cache, under a rule that says how a full set makes room.
 use crate::tally::Touch;
-use crate::tree::TreeSet;
 use std::alloc::{AllocError, Global};
 
-// How a full set makes room.
-#[derive(Clone, Copy, PartialEq, Eq, Debug)]
-pub enum Rule {
-    Fifo,
-    Lru,
-    Tree,
-}
+pub trait Set: Drop {
+    // The rule's name, its letter in a table line, and the numbers of ways that it takes.
+    const NAME: &'static str;
 
-#[derive(Drop)]
-pub enum Ways {
-    Stamped(StampedSet),
-    Tree(TreeSet),
-}
+    const LETTER: u8;
 
-impl Ways {
-    pub fn new(heap: Global, rule: Rule, ways: usize) -> Result<Ways, AllocError> {
-        match rule {
-            Rule::Fifo => Ok(Ways::Stamped(StampedSet::new(heap, ways, false))),
-            Rule::Lru => Ok(Ways::Stamped(StampedSet::new(heap, ways, true))),
-            Rule::Tree => Ok(Ways::Tree(TreeSet::new(heap, ways)?)),
-        }
-    }
+    const WAYS: &'static [u32];
 
-    pub fn touch(&mut self, tag: u32, now: u64) -> Result<Touch, AllocError> {
-        match self {
-            Ways::Stamped(set) => set.touch(tag, now),
-            Ways::Tree(set) => Ok(set.touch(tag)),
-        }
-    }
+    // A set without residents.
+    fn new(heap: Global, ways: usize) -> Result<Self, AllocError>
+    where
+        Self: Sized;
 
-    pub fn words(&self, heap: Global) -> Result<Vec<u32>, AllocError> {
-        match self {
-            Ways::Stamped(set) => set.words(heap),
-            Ways::Tree(set) => set.words(heap),
-        }
-    }
+    // Touches a tag at a time that is later than all before.
+    fn touch(&mut self, tag: u32, now: u64) -> Result<Touch, AllocError>;
+
+    // The words that stand for the set.
+    fn words(&self, heap: Global) -> Result<Vec<u32>, AllocError>;
 }

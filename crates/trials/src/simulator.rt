@@ -1,29 +1,28 @@
 // A plain cache: its sets, a clock, and what it counted.
 use crate::event::Event;
-use crate::set::{Rule, Ways};
+use crate::set::Set;
 use crate::shape::Shape;
 use crate::tally::Tally;
 use std::alloc::{AllocError, Global};
 
 #[derive(Drop)]
-pub struct Simulator {
+pub struct Simulator<S> {
     shape: Shape,
-    sets: Vec<Ways>,
+    sets: Vec<S>,
     clock: u64,
     tally: Tally,
 }
 
-impl Simulator {
-    pub fn new(heap: Global, rule: Rule, shape: Shape) -> Result<Simulator, AllocError> {
-        let mut sets = Vec::new(heap);
-        for _ in 0..shape.sets {
-            sets.push(Ways::new(heap, rule, shape.ways as usize)?)?;
-        }
+impl<S: Set> Simulator<S> {
+    pub fn new(heap: Global, shape: Shape) -> Result<Simulator<S>, AllocError> {
+        let ways = shape.ways as usize;
         Ok(Simulator {
             shape,
-            sets,
+            sets: (0..shape.sets)
+                .map(|_| S::new(heap, ways))
+                .try_collect(heap)?,
             clock: 0,
-            tally: Tally::ZERO,
+            tally: Tally::default(),
         })
     }
 
@@ -32,8 +31,8 @@ impl Simulator {
         let block = event.address / self.shape.block;
         let set = block % self.shape.sets;
         let tag = block / self.shape.sets;
-        if let Some(ways) = self.sets.get_mut(set as usize) {
-            let touch = ways.touch(tag, self.clock)?;
+        if let Some(set) = self.sets.get_mut(set as usize) {
+            let touch = set.touch(tag, self.clock)?;
             self.tally.add(event.kind, touch);
         }
         Ok(())

@@ -18,12 +18,17 @@ pub struct Touch {
 }
 
 // Misses and hits of each kind, comparisons in all, and the residents that made room.
-#[derive(Clone, Copy)]
+#[derive(Clone, Copy, Default)]
 pub struct Tally {
     pub misses: [u32; 3],
     pub hits: [u32; 3],
     pub comparisons: u64,
     pub replaced: u64,
+}
+
+// The counts of all kinds together.
+pub fn in_all(counts: &[u32; 3]) -> u64 {
+    counts.iter().map(|count| u64::from(*count)).sum()
 }
 
 fn one_more(counts: &mut [u32; 3], kind: Kind) {
@@ -32,13 +37,6 @@ fn one_more(counts: &mut [u32; 3], kind: Kind) {
 }
 
 impl Tally {
-    pub const ZERO: Tally = Tally {
-        misses: [0; 3],
-        hits: [0; 3],
-        comparisons: 0,
-        replaced: 0,
-    };
-
     // Counts a touch for an access of a kind.
     pub fn add(&mut self, kind: Kind, touch: Touch) {
         match touch.effect {

@@ -38,10 +38,9 @@ fn again(generator: &mut Generator, events: &[Event]) -> u32 {
 // The next address; `stride` bytes further on, an address falls into the same set.
 fn next_address(generator: &mut Generator, events: &[Event], home: u32, stride: u32) -> u32 {
     match generator.below(32) {
-        0..=11 => match events.last() {
-            Some(event) => event.address.wrapping_add(4),
-            None => home,
-        },
+        0..=11 => events
+            .last()
+            .map_or(home, |event| event.address.wrapping_add(4)),
         12..=19 => again(generator, events),
         20..=30 => {
             let rival = generator.below(RIVALS);

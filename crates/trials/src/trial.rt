@@ -1,6 +1,5 @@
-// One trial: a rule and a shape, run over the trace of a seed.
+// One trial: the letter of a policy and a shape, run over the trace of a seed.
 use crate::event::Event;
-use crate::set::Rule;
 use crate::shape::Shape;
 use crate::trace::random_trace;
 use geometry::line::Line;
@@ -13,7 +12,7 @@ pub const LENGTH: u32 = 4000;
 
 #[derive(Clone, Copy)]
 pub struct Trial {
-    pub rule: Rule,
+    pub letter: u8,
     pub shape: Shape,
     pub seed: u64,
 }
@@ -21,13 +20,8 @@ pub struct Trial {
 impl Trial {
     // The table line that asks the library for the same cache.
     pub fn line(&self) -> Line {
-        let letter = match self.rule {
-            Rule::Fifo => b'F',
-            Rule::Lru => b'L',
-            Rule::Tree => b'P',
-        };
         Line {
-            letter,
+            letter: self.letter,
             sets: u64::from(self.shape.sets),
             block: u64::from(self.shape.block),
             ways: u64::from(self.shape.ways),
@@ -43,23 +37,19 @@ impl Trial {
 
 // The events as the library takes them.
 pub fn accesses_of(heap: Global, events: &[Event]) -> Result<Vec<Access>, AllocError> {
-    let mut accesses = Vec::new(heap);
-    for event in events {
-        accesses.push(Access {
+    events
+        .iter()
+        .map(|event| Access {
             kind: event.kind.index(),
             address: u64::from(event.address),
-        })?;
-    }
-    Ok(accesses)
+        })
+        .collect(heap)
 }
 
 impl fmt::Display for Trial {
     fn fmt<W: fmt::Write>(&self, f: &mut fmt::Formatter<W>) -> fmt::Result {
-        let line = self.line();
-        let letter = char::from(line.letter);
-        let sets = line.sets;
-        let block = line.block;
-        let ways = line.ways;
+        let letter = char::from(self.letter);
+        let Shape { sets, block, ways } = self.shape;
         let seed = self.seed;
         write!(f, "{letter} {sets} {block} {ways}, seed {seed}")
     }
