@@ -15,3 +15,6 @@ hits_kept kind (h ∷ hs) (m ∷ ms) t = ap (λ b. counted kind b m ∷ all_coun
 pub all_hit_true : (ks : List Kin) → AllByRecursion (λ h. h ≡ true) (all_hit ks)
 all_hit_true [] = tt
 all_hit_true (k ∷ ks) = (refl, all_hit_true ks)
+
+pub all_kept : (kind : ℕ) (ks : List Kin) (ms : List (List ℕ)) → all_counted kind (all_hit ks) ms ≡ ms
+all_kept kind ks ms = hits_kept kind (all_hit ks) ms (all_hit_true ks)

@@ -9,7 +9,7 @@ use Rattle.bench.specs.Level.{Done, all_hit, hit_level, miss_level, visit}
 use Rattle.bench.specs.Mixed.{Leads, Owned}
 use Rattle.bench.specs.Rows.{Stepped}
 use Rattle.bench.specs.Words.{Kin}
-use Rattle.bench.proofs.Hits.{all_hit_true, hits_kept}
+use Rattle.bench.proofs.Hits.{all_kept}
 
 -- the direct-mapped cache makes at most one comparison
 one_compared : (ws : List ℕ) (i : ℕ) → direct_compared ws i ≤ 1
@@ -21,7 +21,7 @@ module _ (f : Owned → ℕ → Leads → Stepped) (s i t kind : ℕ) (ks : List
       let goes : visit f s i t ks ws ≡ hit_level i ks ws = cond-true (direct_hit ws i t) (hit_level i ks ws) (miss_level f s i t ks ws) h in
       record {
         words = ew ∙ cond-true (direct_hit ws i t) ws (set (set ws (2 * i) 1) (2 * i + 1) t) h ∙ sym (ap (λ v. v.words) goes);
-        misses = sym (ap (λ v. all_counted kind v.hits ms) goes ∙ hits_kept kind (all_hit ks) ms (all_hit_true ks));
+        misses = sym (ap (λ v. all_counted kind v.hits ms) goes ∙ all_kept kind ks ms);
         compared = omega (arith, ec, one_compared ws i) ∙ sym (ap (λ v. capped v.comparisons) goes);
       }
 
