@@ -1,28 +1,8 @@
 // An access of a trace: what it does, and where.
-ghost use Rattle.std.specs.Prelude.{◌<◌};
-
-#[derive(Clone, Copy, PartialEq, Eq, Debug)]
-pub enum Kind {
-    Fetch,
-    Read,
-    Store,
-}
-
-impl Kind {
-    // The place of the kind in a list of counts.
-    pub fn index(self) -> u8
-        ensures { result < 3 }
-    {
-        match self {
-            Kind::Fetch => 0,
-            Kind::Read => 1,
-            Kind::Store => 2,
-        }
-    }
-}
+use geometry::kind::AccessKind;
 
 #[derive(Clone, Copy, PartialEq, Eq, Debug)]
 pub struct Event {
-    pub kind: Kind,
+    pub kind: AccessKind,
     pub address: u32,
 }
