@@ -1,8 +1,9 @@
 // What a job holds, by kinds of lines.
 use crate::table::check_table;
+use geometry::kind::AccessKind;
 use jobtext::fault::Fault;
 use jobtext::reader::Reader;
-use jobtext::record::{AccessKind, Record};
+use jobtext::record::Record;
 
 #[derive(Clone, Copy)]
 pub struct Survey {

@@ -4,7 +4,7 @@ use Rattle.std.proofs.lemmas.List.{append_assoc, get_or-take, length-take, take_
 use Rattle.std.proofs.lemmas.Bool.{and_parts, cases_Bool, eqb-false, eqb-true, ltb-true}
 use Rattle.geometry.specs.declared.line.Line.{Line}
 use Rattle.jobtext.specs.declared.record.LineKind.TheVariants as kind
-use Rattle.jobtext.specs.declared.record.AccessKind.TheVariants.{Fetch, Read, Store}
+use Rattle.geometry.specs.declared.kind.AccessKind.TheVariants.{Fetch, Read, Store}
 use Rattle.jobtext.specs.Numbers.{every, is_decimal}
 use Rattle.jobtext.specs.Fields.{fields, first_line, has_feed, line_end, put}
 use Rattle.jobtext.specs.Entries.{Entry, table, opened, access, window, off, frame, flush, zeroed, comment}

@@ -8,7 +8,8 @@ ghost use Rattle.jobtext.specs.Seen.{seen, seen_line};
 
 use crate::bytes::{count_fields, line_end, split};
 use crate::numeral::{Base, Decimal, Hex, well_formed};
-use crate::record::{AccessKind, Record, TextLine};
+use crate::record::{Record, TextLine};
+use geometry::kind::AccessKind;
 use geometry::refusal::Refusal;
 
 // Whether a field is a decimal number.

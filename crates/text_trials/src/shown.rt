@@ -1,7 +1,8 @@
 // Answers of the reader in words.
+use geometry::kind::AccessKind;
 use jobtext::fault::Fault;
 use jobtext::reader::Reader;
-use jobtext::record::{AccessKind, Record, TextLine};
+use jobtext::record::{Record, TextLine};
 use std::alloc::{AllocError, Global};
 
 fn kind_name(kind: AccessKind) -> &'static str {
