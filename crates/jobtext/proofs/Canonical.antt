@@ -5,8 +5,11 @@ use Rattle.std.proofs.lemmas.Bool.{and_parts, cases_Bool, eqb-false, eqb-true, l
 use Rattle.geometry.specs.declared.line.Line.{Line}
 use Rattle.jobtext.specs.declared.record.LineKind.TheVariants as kind
 use Rattle.geometry.specs.declared.kind.AccessKind.TheVariants.{Fetch, Read, Store}
-use Rattle.jobtext.specs.Numbers.{every, is_decimal}
-use Rattle.jobtext.specs.Fields.{fields, first_line, has_feed, line_end, put}
+use Rattle.std.specs.List.{join_with_byte, list_all}
+use Rattle.std.proofs.lemmas.List.Splits.{join_with_byte-slice_split}
+use Rattle.std.proofs.lemmas.List.Sums.{passes_at_first}
+use Rattle.jobtext.specs.Numbers.{is_decimal}
+use Rattle.jobtext.specs.Fields.{fields, first_line, has_feed, line_end}
 use Rattle.jobtext.specs.Entries.{Entry, table, opened, access, window, off, frame, flush, zeroed, comment}
 use Rattle.jobtext.specs.Forms.{Form, access_form, all_formed, answered, bare_form, by_fields, by_form, by_known, form_of, is_letter, nth, off_form, placed, printable, run_form_of, read_comment, read_record, read_text, table_form, window_form}
 use Rattle.jobtext.specs.Job.{kind_of, table_line}
@@ -14,31 +17,6 @@ use Rattle.jobtext.specs.Round.{OneText, ReadsAs}
 use Rattle.jobtext.specs.Written.{line_text}
 use Rattle.jobtext.proofs.Figures.{figures_back}
 use Rattle.jobtext.proofs.Formed.{form_count, form_right, form_wrong}
-use Rattle.jobtext.proofs.Places.{before_at, fields_at_comma, fields_at_other, fields_some}
-
--- fields with commas between them
-abbrev join : List (List ℕ) → List ℕ
-join [] = []
-join (f ∷ []) = f
-join (f ∷ g ∷ gs) = f ++ 44 ∷ join (g ∷ gs)
-
-join_comma : (fs : List (List ℕ)) → 0 < length fs → join ([] ∷ fs) ≡ 44 ∷ join fs
-join_comma [] h = absurd (omega arith)
-join_comma (f ∷ fs) h = refl
-
-join-put : (b : ℕ) (fs : List (List ℕ)) → 0 < length fs → join (put b fs) ≡ b ∷ join fs
-join-put b [] h = absurd (omega arith)
-join-put b (f ∷ []) h = refl
-join-put b (f ∷ g ∷ gs) h = refl
-
--- the fields of a line make it up
-join-fields : (bs : List ℕ) → join (fields bs) ≡ bs
-join-fields [] = refl
-join-fields (b ∷ bs) =
-    ⊎_elim
-    (λ t. ap join (fields_at_comma b bs t) ∙ join_comma (fields bs) (fields_some bs) ∙ ap (λ (x : ℕ). x ∷ join (fields bs)) (sym (eqb-true b 44 t)) ∙ ap (λ (xs : List ℕ). b ∷ xs) (join-fields bs))
-    (λ f. ap join (fields_at_other b bs f) ∙ join-put b (fields bs) (fields_some bs) ∙ ap (λ (xs : List ℕ). b ∷ xs) (join-fields bs))
-    (cases_Bool (eqb b 44))
 
 -- what an entry that a form makes has passed
 form_made : (form : Form) (gs : List (List ℕ)) (e : Entry) → by_form form gs ≡ Ok e → (length gs ≡ length form.sorts) × (all_formed form.sorts gs ≡ true) × (form.make gs ≡ e)
@@ -150,7 +128,7 @@ module _ (l : ℕ) (s b w : List ℕ) where
       ⊎_elim
       (λ t. let q = sym (ap (λ (c : Bool). answered (cond c None (Some 3)) (comment r)) t) ∙ h in let z : ◌≡◌ {A = ℕ} 0 1 = cc in omega arith)
       (λ f. let q = sym (ap (λ (c : Bool). answered (cond c None (Some 3)) (comment r)) f) ∙ h in let z : ◌≡◌ {A = ℕ} 0 1 = cc in omega arith)
-      (cases_Bool (every printable r))
+      (cases_Bool (list_all printable r))
 
   -- the bytes of a line that is read as a table line
   record_are : (bs : List ℕ) → read_record bs ≡ Ok (table l s b w) → (bs ≡ table-bytes l s b w) × Decimals l s b w
@@ -160,7 +138,7 @@ module _ (l : ℕ) (s b w : List ℕ) where
       (λ t. absurd (comment_no_table r (sym (ap (λ (c : Bool). cond c (read_comment r) (by_fields (fields (x ∷ r)))) t) ∙ h)))
       (λ f.
       let are = fields_are (fields (x ∷ r)) (sym (ap (λ (c : Bool). cond c (read_comment r) (by_fields (fields (x ∷ r)))) f) ∙ h) in
-      (sym (join-fields (x ∷ r)) ∙ ap join are.0, are.1))
+      (sym (join_with_byte-slice_split 44 (x ∷ r)) ∙ ap (join_with_byte 44) are.0, are.1))
       (cases_Bool (eqb x 35))
 
 placed_ok : (k : ℕ) (r : Result Entry ℕ) (e : Entry) (n : ℕ) → placed k r ≡ Ok (e, n) → (r ≡ Ok e) × (n ≡ k)
@@ -186,7 +164,7 @@ line_whole text t =
     let in_text : line_end text < length text = omega (arith, length-take 80 text) in
     let in_front : line_end text < 80 = omega (arith, length-take 80 text) in
     take_more text (line_end text) 0 in_text
-    ∙ ap (λ (x : ℕ). first_line text ++ x ∷ []) (sym (get_or-take 80 text (line_end text) 0 in_front) ∙ before_at 10 (take 80 text) low)
+    ∙ ap (λ (x : ℕ). first_line text ++ x ∷ []) (sym (get_or-take 80 text (line_end text) 0 in_front) ∙ eqb-true _ 10 (passes_at_first (λ b. eqb b 10) (take 80 text) 0 low))
 
 -- a table line with its line feed, in one piece
 pub bytes_feed : (l : ℕ) (s b w : List ℕ) → table-bytes l s b w ++ 10 ∷ [] ≡ 99 ∷ 44 ∷ l ∷ 44 ∷ (s ++ 44 ∷ (b ++ 44 ∷ (w ++ 10 ∷ [])))
