@@ -8,30 +8,9 @@ use Rattle.std.proofs.lemmas.Str.Parse.{FoldsDigits, IsNumeralModel, IsDigitsTes
 use Rattle.std.proofs.lemmas.Bool.{both_ways, cond-true, and_from, and_left, and_parts, and_right, cases_lt, eq-eqb, le-leb, le-ltb, leb-true, lt-ltb, ltb-true, ne_eqb, not-true, not_from_false}
 use Rattle.jobtext.specs.Numbers.{digit_value, digits_value, is_decimal, is_digit, leading_zero}
 
--- a number of 64 bits has at most 20 digits
-pub figures : (n : ℕ) → n < 2 ^ 64 → length (decimal n) ≤ 20
-figures n h = length-decimal-le 20 n (omega arith) (omega arith) h
-
--- one digit more
-pub figures_more : (n : ℕ) → 10 ≤ n → n < 2 ^ 64 → length (decimal n) ≡ length (decimal (n / 10)) + 1
-figures_more n ten h = ap (λ (xs : List ℕ). length xs) (decimal_step n ten h) ∙ length_push (decimal (n / 10)) (48 + n % 10)
-
+-- a number of one digit
 pub figures_one : (n : ℕ) → n < 10 → length (decimal n) ≡ 1
 figures_one n h = ap (λ (xs : List ℕ). length xs) (decimal_digit n h)
-
--- a table line, grouped from the left and from the right
-pub line_grouped : (l : ℕ) (s b w : List ℕ) → 99 ∷ 44 ∷ l ∷ 44 ∷ (((s ++ 44 ∷ b) ++ 44 ∷ w) ++ 10 ∷ []) ≡ 99 ∷ 44 ∷ l ∷ 44 ∷ (s ++ 44 ∷ (b ++ 44 ∷ (w ++ 10 ∷ [])))
-line_grouped l s b w = simp append_assoc
-
--- a fault line likewise
-pub fault_grouped : (j n : List ℕ) (l : ℕ) (t : List ℕ) → 113 ∷ 44 ∷ (((((j ++ 44 ∷ n) ++ 44 ∷ []) ++ l ∷ []) ++ 44 ∷ t) ++ 10 ∷ []) ≡ 113 ∷ 44 ∷ (j ++ 44 ∷ (n ++ 44 ∷ l ∷ 44 ∷ (t ++ 10 ∷ [])))
-fault_grouped j n l t =
-    let end = 44 ∷ (t ++ 10 ∷ []) in
-    ap (λ (xs : List ℕ). 113 ∷ 44 ∷ xs)
-    (append_assoc (((j ++ 44 ∷ n) ++ 44 ∷ []) ++ l ∷ []) (44 ∷ t) (10 ∷ [])
-    ∙ append_assoc ((j ++ 44 ∷ n) ++ 44 ∷ []) (l ∷ []) end
-    ∙ append_assoc (j ++ 44 ∷ n) (44 ∷ []) (l ∷ end)
-    ∙ append_assoc j (44 ∷ n) (44 ∷ l ∷ end))
 
 -- digits as the library has them
 abbrev value_after : ℕ → List ℕ → ℕ

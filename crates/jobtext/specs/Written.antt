@@ -5,13 +5,8 @@ use Rattle.geometry.specs.Line.{line_questions}
 use Rattle.geometry.specs.Refusal.{Question, ask, refusal_number}
 use Rattle.geometry.specs.declared.line.Line.{Line}
 use Rattle.geometry.specs.declared.refusal.Refusal.{Refusal}
-use Rattle.jobtext.specs.declared.text.Text.{Text}
 use Rattle.jobtext.specs.Fields.{byte}
 use Rattle.jobtext.specs.Job.{Blame}
-
--- the line that a text holds
-abbrev pub shown : Text → List ℕ
-shown t = take t.count t.bytes
 
 -- whether a buffer holds a text
 abbrev pub fits : List ℕ → List ℕ → Bool

@@ -67,18 +67,11 @@ fn read_off<'a>(rest: &'a [u8]) -> Result<Record<'a>, Refusal>
     }
 }
 
-// Whether a byte may stand in a comment.
-fn is_printable(byte: u8) -> bool
-    ensures { result ≡ printable byte }
-{
-    matches!(byte, b' '..=b'~')
-}
-
 // Whether each byte may stand in a comment.
 fn all_printable(text: &[u8]) -> bool
     ensures { result ≡ list_all printable text.now }
 {
-    text.iter().all(|b| is_printable(*b))
+    text.iter().all(|b| matches!(b, b' '..=b'~'))
 }
 
 // A comment after its sign.
