@@ -33,7 +33,7 @@ pub fn check_table(table: &[Line], job_line: u64) -> Result<(), Fault> {
         return Err(Fault {
             refusal: Refusal::TableSize,
             job_line,
-            table_line: 0,
+            table_line: None,
         });
     }
     let mut before = None;
@@ -44,7 +44,7 @@ pub fn check_table(table: &[Line], job_line: u64) -> Result<(), Fault> {
             return Err(Fault {
                 refusal,
                 job_line,
-                table_line,
+                table_line: Some(table_line),
             });
         }
         before = Some(*line);

@@ -1,6 +1,5 @@
 pub mod Values
 pub mod Formed
-pub mod States
 pub mod Figures
 pub mod Canonical
 pub mod ReadBack

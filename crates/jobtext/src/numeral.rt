@@ -35,22 +35,12 @@ fn all_digits(bytes: &[u8], radix: u64) -> bool
     bytes.iter().all(|b| is_digit(*b, radix))
 }
 
-// Whether a zero stands in front of further digits.
-fn leading_zero(bytes: &[u8]) -> bool
-    ensures { result ≡ leading_zero bytes.now }
-{
-    matches!(bytes, [b'0', _, ..])
-}
-
 // What a digit counts.
 fn weight_of(byte: u8) -> u64
     ensures { result ≡ digit_value byte }
 {
-    if byte <= b'9' {
-        byte.saturating_sub(b'0') as u64
-    } else {
-        byte.saturating_sub(b'a' - 10) as u64
-    }
+    let zero = if byte <= b'9' { b'0' } else { b'a' - 10 };
+    u64::from(byte.saturating_sub(zero))
 }
 
 // The number that the digits write.
@@ -72,7 +62,7 @@ impl<'a, const RADIX: u64, const MOST: usize> Numeral<'a, RADIX, MOST> {
     {
         if digits.is_empty()
             || digits.len() > MOST
-            || leading_zero(digits)
+            || matches!(digits, [b'0', _, ..])
             || !all_digits(digits, RADIX)
         {
             return Err(Refusal::Malformed);

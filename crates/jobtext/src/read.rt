@@ -1,5 +1,5 @@
 // Reads a line of a job.
-ghost use Rattle.std.specs.Prelude.{◌≡◌, [], IfOk};
+ghost use Rattle.std.specs.Prelude.{◌≡◌, ◌<◌, ◌≤◌, [], length, IfOk};
 ghost use Rattle.std.specs.List.{list_all};
 ghost use Rattle.jobtext.specs.Fields.{fields};
 ghost use Rattle.jobtext.specs.Forms.{access_form, by_form, by_known, form_of, off_form, printable, read_comment, read_record, read_text, table_form, window_form};
@@ -128,6 +128,8 @@ fn read_record<'a>(line: &'a [u8]) -> Result<Record<'a>, Refusal>
 // The first line of a text: its record and its length, or the first question that it does not pass.
 pub fn read_line<'a>(text: &'a [u8]) -> Result<TextLine<'a>, Refusal>
     ensures line { seen_line result ≡ read_text text.now }
+    ensures some { IfOk result (λ l. 0 < l.length) }
+    ensures within { IfOk result (λ l. l.length ≤ length text.now) }
     ensures apart { IfOk result (λ l. OneText text.now l.length) }
 {
     let end = line_end(text).ok_or(Refusal::LineFeed)?;

@@ -27,10 +27,10 @@ impl Fault {
         let mut text = Text::new();
         text.push(b'q');
         push_field(&mut text, self.job_line);
-        push_field(&mut text, self.refusal.number() as u64);
+        push_field(&mut text, u64::from(self.refusal.number()));
         text.push(b',');
         text.push(self.layer());
-        push_field(&mut text, self.table_line as u64);
+        push_field(&mut text, u64::from(self.table_line.unwrap_or(0)));
         text.push(b'\n');
         text
     }
