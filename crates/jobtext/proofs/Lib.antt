@@ -1,5 +1,4 @@
 pub mod Values
-pub mod Formed
 pub mod Figures
 pub mod Canonical
 pub mod ReadBack

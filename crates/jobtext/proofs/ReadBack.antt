@@ -1,18 +1,16 @@
 -- What is written of a line of the table is read as that line.
-use Rattle.std.proofs.Common.{◌≡◌, ℕ, zero, suc, ◌+◌, ◌^◌, ◌<◌, ◌≤◌, Bool, true, false, cond, not, ◌&&◌, eqb, leb, List, [], ◌∷◌, ◌++◌, length, take, Ok, Err, decimal, sym, refl, ap, ◌∙◌, ⊎_elim, arith, rules}
-use Rattle.std.proofs.lemmas.List.{append_assoc, append-nil, length-append, length_push, length-take, take_at, get_or_at}
-use Rattle.std.proofs.lemmas.Bool.{and_from, and_parts, cases_Bool, le-leb, leb-true, lt-ltb, ne_eqb, not_from_false, not-true}
+use Rattle.std.proofs.Common.{◌≡◌, ℕ, ◌+◌, ◌^◌, ◌<◌, ◌≤◌, Bool, true, false, not, eqb, List, [], ◌∷◌, ◌++◌, length, take, Ok, decimal, sym, refl, ap, ◌∙◌, arith}
+use Rattle.std.proofs.lemmas.List.{append_assoc, length-append, length_push, length-take, take_at, get_or_at}
+use Rattle.std.proofs.lemmas.Bool.{and_from, lt-ltb, ne_eqb, not_from_false}
 use Rattle.geometry.specs.declared.line.Line.{Line}
-use Rattle.jobtext.specs.declared.record.LineKind.TheVariants as kind
-use Rattle.jobtext.specs.Numbers.{digits_value, is_decimal, is_digit}
+use Rattle.jobtext.specs.Numbers.{is_decimal, is_digit}
 use Rattle.jobtext.specs.Fields.{before, fields, first_line, has_feed, line_end}
 use Rattle.jobtext.specs.Entries.{Entry, table}
-use Rattle.jobtext.specs.Forms.{by_fields, placed, read_record, read_text, table_form}
+use Rattle.jobtext.specs.Forms.{read_record, read_text}
 use Rattle.jobtext.specs.Round.{ReadsAs}
 use Rattle.jobtext.specs.Written.{line_text}
 use Rattle.jobtext.proofs.Canonical.{bytes_feed, table-bytes, table-fields}
 use Rattle.jobtext.proofs.Figures.{decimal_parts, figures_formed, figures_value}
-use Rattle.jobtext.proofs.Formed.{form_right}
 use Rattle.std.specs.List.{All, list_all}
 use Rattle.std.proofs.lemmas.Grind.{common_steps}
 use Rattle.std.proofs.lemmas.Bool.Decides.{nat_tests}
@@ -49,10 +47,8 @@ text_read body rest e no-feed short reads =
     let end = feed_place 80 body rest no-feed short in
     let long = length-append body (10 ∷ rest) in
     let found : has_feed text ≡ true = lt-ltb (line_end text) (length (take 80 text)) (omega (arith, length-take 80 text)) in
-    ap (λ (t : Bool). cond t (placed (line_end text + 1) (read_record (first_line text))) (Err 1)) found
-    ∙ ap (λ (n : ℕ). placed (n + 1) (read_record (take n text))) end
-    ∙ ap (λ (bs : List ℕ). placed (length body + 1) (read_record bs)) (take_at body (10 ∷ rest) (length body) refl)
-    ∙ ap (placed (length body + 1)) reads
+    let line : first_line text ≡ body = ap (λ (n : ℕ). take n text) end ∙ take_at body (10 ∷ rest) (length body) refl in
+    rw (found, line, end, reads) refl
 
 -- the bytes of a table line are read as its record
 module _ (l : ℕ) (s b w : List ℕ) (low : 65 ≤ l) (high : l ≤ 90) (ds : is_decimal s ≡ true) (db : is_decimal b ≡ true) (dw : is_decimal w ≡ true) where
@@ -66,13 +62,7 @@ module _ (l : ℕ) (s b w : List ℕ) (low : 65 ≤ l) (high : l ≤ 90) (ds : i
       cc
 
   table_reads : read_record (table-bytes l s b w) ≡ Ok (table l s b w)
-  table_reads =
-      ap by_fields table_parted
-      ∙ sym (form_right table_form ((l ∷ []) ∷ s ∷ b ∷ w ∷ []) refl
-      (and_from (leb 65 l && leb l 90) (is_decimal s && (is_decimal b && (is_decimal w && true))) (and_from (leb 65 l) (leb l 90) (le-leb 65 l low) (le-leb l 90 high))
-      (and_from (is_decimal s) (is_decimal b && (is_decimal w && true)) ds
-      (and_from (is_decimal b) (is_decimal w && true) db
-      (and_from (is_decimal w) true dw refl)))))
+  table_reads = let parted = table_parted in grind (arith, nat_tests)
 
   table-inner : list_all inner (table-bytes l s b w) ≡ true
   table-inner =
@@ -83,10 +73,6 @@ module _ (l : ℕ) (s b w : List ℕ) (low : 65 ≤ l) (high : l ≤ 90) (ds : i
   table_short : length (table-bytes l s b w) < 80
   table_short =
       omega (arith, length-append s (44 ∷ (b ++ 44 ∷ w)), length-append b (44 ∷ w), (decimal_parts s ds).1, (decimal_parts b db).1, (decimal_parts w dw).1)
-
--- a line of the table by its values
-abbrev line_by : ℕ → ℕ → ℕ → ℕ → Line
-line_by l s b w = record { letter = l; sets = s; block = b; ways = w }
 
 -- the line is read back
 pub reads_back : (line : Line) (rest : List ℕ) → 65 ≤ line.letter → line.letter ≤ 90 → line.sets < 10 ^ 10 → line.block < 10 ^ 10 → line.ways < 10 ^ 10 → ReadsAs (line_text line ++ rest) (length (line_text line)) line
@@ -105,7 +91,5 @@ reads_back line rest low high hs hb hw =
     let long : length body + 1 ≡ length (line_text line) = sym (length_push body 10) ∙ ap (λ (xs : List ℕ). length xs) whole in (
       table l s b w,
       ap read_text text ∙ read ∙ ap (λ (n : ℕ). Ok (table l s b w, n)) long,
-      ap (λ (v : ℕ). kind.Table (line_by l v (digits_value 10 b) (digits_value 10 w))) (figures_value line.sets hs)
-          ∙ ap (λ (v : ℕ). kind.Table (line_by l line.sets v (digits_value 10 w))) (figures_value line.block hb)
-          ∙ ap (λ (v : ℕ). kind.Table (line_by l line.sets line.block v)) (figures_value line.ways hw),
+      rw (figures_value line.sets hs, figures_value line.block hb, figures_value line.ways hw) refl,
     )

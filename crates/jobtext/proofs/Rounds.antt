@@ -1,5 +1,5 @@
 -- What a call that writes a table line gives.
-use Rattle.std.proofs.Common.{◌≡◌, ℕ, ◌^◌, ◌<◌, ◌≤◌, Bool, cond, eqb, List, ◌++◌, length, take, drop, IfOk, Some, None, Ok, Err, Option, Result, sym, ap, ◌∙◌, subst, ⊎_elim, arith}
+use Rattle.std.proofs.Common.{◌≡◌, ℕ, ◌^◌, ◌<◌, ◌≤◌, List, ◌++◌, length, take, drop, IfOk, Some, None, Ok, Err, Option, Result, sym, ap, ◌∙◌, arith}
 use Rattle.std.proofs.lemmas.Nat.{pow_below}
 use Rattle.std.proofs.lemmas.List.{take_at}
 use Rattle.std.proofs.lemmas.Bool.Decides.{nat_tests}
@@ -7,14 +7,12 @@ use Rattle.policy.specs.Policy.{Laws}
 use Rattle.policy.specs.Three.{Three, policy_of, which}
 use Rattle.policy.specs.declared.three.Member.{Member}
 use Rattle.policy.specs.declared.three.Member.TheVariants.{First, Second, Further}
-use Rattle.geometry.specs.Line.{GeometryOf, line_questions}
-use Rattle.geometry.specs.Refusal.{first_no, refusal_number}
+use Rattle.geometry.specs.Line.{GeometryOf}
 use Rattle.geometry.specs.declared.geometry.Geometry.{Geometry}
 use Rattle.geometry.specs.declared.line.Line.{Line}
 use Rattle.geometry.specs.declared.refusal.Refusal.{Refusal}
 use Rattle.jobtext.specs.Round.{ReadsAs, WrittenBack}
-use Rattle.jobtext.specs.Written.{counted, fit_question, line_text, overwritten, seen_length, write_questions}
-use Rattle.geometry.proofs.Asked.{after_none, after_some}
+use Rattle.jobtext.specs.Written.{counted, line_text, overwritten, seen_length}
 use Rattle.jobtext.proofs.Canonical.{canonical}
 use Rattle.jobtext.proofs.ReadBack.{reads_back}
 

@@ -1,5 +1,5 @@
 -- How a job is read: its part, its table and its line numbers.
-use Rattle.std.specs.Prelude.{ℕ, ◌+◌, ◌-◌, ◌^◌, min, Bool, true, false, List, [], ◌∷◌, ◌++◌, length, take, Some, None, Ok, Err, Option, Result, nat_lt}
+use Rattle.std.specs.Prelude.{ℕ, ◌+◌, ◌-◌, ◌^◌, min, Bool, true, false, List, [], ◌∷◌, ◌++◌, length, Some, None, Ok, Err, Option, Result, nat_lt}
 use Rattle.geometry.specs.Refusal.{Question, ask, first_no}
 use Rattle.geometry.specs.declared.line.Line.{Line}
 use Rattle.jobtext.specs.declared.reader.Part.{Part}

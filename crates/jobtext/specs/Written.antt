@@ -1,5 +1,5 @@
 -- What is written, and what a buffer then holds.
-use Rattle.std.specs.Prelude.{ℕ, Bool, cond, List, [], ◌∷◌, ◌++◌, length, take, drop, Some, None, Ok, Err, codes, decimal, Option, Result, nat_le, unwrap_or}
+use Rattle.std.specs.Prelude.{ℕ, Bool, cond, List, [], ◌∷◌, ◌++◌, length, drop, Some, None, Ok, Err, codes, decimal, Option, Result, nat_le, unwrap_or}
 use Rattle.policy.specs.Three.{Three}
 use Rattle.geometry.specs.Line.{line_questions}
 use Rattle.geometry.specs.Refusal.{Question, ask, refusal_number}

@@ -6,7 +6,7 @@ use arrayvec::ArrayVec;
 use geometry::refusal::Refusal;
 
 // The longest line, with its line feed.
-const LONGEST: usize = 80;
+pub(crate) const LONGEST: usize = 80;
 
 // Where the line feed of the first line stands.
 pub(crate) fn line_end(text: &[u8]) -> Option<usize>

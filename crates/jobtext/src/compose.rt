@@ -4,16 +4,17 @@ ghost use Rattle.arrayvec.specs.ArrayVec.{array_vec_len};
 ghost use Rattle.geometry.specs.Refusal.{first_no};
 ghost use Rattle.jobtext.specs.Written.{counted, fit_question, overwritten, seen_length};
 
+use crate::bytes::LONGEST;
 use arrayvec::ArrayVec;
 use geometry::refusal::Refusal;
 use itoa::Buffer;
 
-// A line that is being written.
-pub(crate) type Text = ArrayVec<u8, 80>;
+// A line that is being written, byte by byte: of `write!` no contract tells that it succeeds.
+pub(crate) type Text = ArrayVec<u8, LONGEST>;
 
 // A comma, and a number in decimal without leading zeros.
 pub(crate) fn push_field(text: &mut Text, n: u64)
-    requires { array_vec_len text.old + 21 ≤ 80 }
+    requires { array_vec_len text.old + 21 ≤ LONGEST }
     ensures line { text.new.items ≡ text.old.items ++ 44 ∷ decimal n }
     ensures count { array_vec_len text.new ≤ array_vec_len text.old + 21 }
 {

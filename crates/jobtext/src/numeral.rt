@@ -5,7 +5,7 @@ ghost use Rattle.std.specs.List.{list_all};
 
 use geometry::refusal::Refusal;
 
-// At most `MOST` digits of a base.
+// Digits of a base, at most `MOST` of them.
 #[derive(Clone, Copy)]
 pub struct Numeral<'a, const RADIX: u64, const MOST: usize> {
     pub digits: &'a [u8],
@@ -35,7 +35,7 @@ fn all_digits(bytes: &[u8], radix: u64) -> bool
     bytes.iter().all(|b| is_digit(*b, radix))
 }
 
-// What a digit counts.
+// What a digit counts. Bytes that are no digits count too, so `to_digit` does not serve.
 fn weight_of(byte: u8) -> u64
     ensures { result ≡ digit_value byte }
 {

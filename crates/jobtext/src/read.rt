@@ -1,8 +1,8 @@
 // Reads a line of a job.
-ghost use Rattle.std.specs.Prelude.{◌≡◌, ◌<◌, ◌≤◌, [], length, IfOk};
+ghost use Rattle.std.specs.Prelude.{◌≡◌, ◌<◌, ◌≤◌, true, false, [], ◌∷◌, length, IfErr, IfOk};
 ghost use Rattle.std.specs.List.{list_all};
 ghost use Rattle.jobtext.specs.Fields.{fields};
-ghost use Rattle.jobtext.specs.Forms.{access_form, by_form, by_known, form_of, off_form, printable, read_comment, read_record, read_text, table_form, window_form};
+ghost use Rattle.jobtext.specs.Forms.{access_form, by_form, by_known, form_of, is_letter, off_form, printable, read_comment, read_record, read_text, table_form, window_form};
 ghost use Rattle.jobtext.specs.Round.{OneText};
 ghost use Rattle.jobtext.specs.Seen.{seen, seen_line};
 
@@ -12,18 +12,30 @@ use crate::record::{Record, TextLine};
 use geometry::kind::AccessKind;
 use geometry::refusal::Refusal;
 
+// A field that is the letter of a policy.
+fn read_letter(field: &[u8]) -> Result<u8, Refusal>
+    ensures one { IfOk result (λ letter. field.now ≡ letter ∷ []) }
+    ensures right { IfOk result (λ _. is_letter field.now ≡ true) }
+    ensures kind { IfErr result (λ e. e ≡ Refusal.Malformed) }
+    ensures wrong { IfErr result (λ _. is_letter field.now ≡ false) }
+{
+    match field {
+        [letter @ b'A'..=b'Z'] => Ok(*letter),
+        _ => Err(Refusal::Malformed),
+    }
+}
+
 // A table line after its `c` and the comma.
 fn read_table<'a>(rest: &'a [u8]) -> Result<Record<'a>, Refusal>
     ensures { seen result ≡ by_form table_form (fields rest.now) }
 {
     match fields(rest)?.as_slice() {
-        [[letter @ b'A'..=b'Z'], sets, block, ways] => Ok(Record::Table {
-            letter: *letter,
+        [letter, sets, block, ways] => Ok(Record::Table {
+            letter: read_letter(*letter)?,
             sets: Decimal::read(*sets)?,
             block: Decimal::read(*block)?,
             ways: Decimal::read(*ways)?,
         }),
-        [_, _, _, _] => Err(Refusal::Malformed),
         _ => Err(Refusal::Fields),
     }
 }

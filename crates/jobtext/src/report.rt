@@ -9,7 +9,8 @@ use crate::fault::Fault;
 use geometry::refusal::Refusal;
 
 impl Fault {
-    // The letter of the layer that refuses: T for the text, C for the caches, B for the bench.
+    // The letter of the layer that refuses: T for the text, C for the caches, B for the bench. Each layer has a range of
+    // numbers, which the names of the refusals would not say shorter.
     pub fn layer(&self) -> u8
         ensures { result ≡ layer_of (refusal_number self.now.refusal) }
     {

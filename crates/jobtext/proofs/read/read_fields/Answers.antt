@@ -1,5 +1,4 @@
-use Rattle.std.proofs.Common.{◌==◌, arith, rules}
-use Rattle.std.proofs.lemmas.Grind.{common_steps}
+use Rattle.std.proofs.Common.{◌==◌, rules}
 use Rattle.std.proofs.lemmas.List.Splits.{length-slice_split}
 use Rattle.jobtext.proofs.read.read_fields.Goals as goal
 

@@ -1,4 +1,5 @@
 use Rattle.std.proofs.Common.{rules, ◌∙◌}
+use Rattle.geometry.proofs.Asked.{after_some}
 use Rattle.policy.specs.Three.{three}
 use Rattle.policy.proofs.Lawful.{lawful_of}
 use Rattle.geometry.specs.Refusal.{first_no}
@@ -19,3 +20,9 @@ returns g c =
       back = back c.args.line.now ok c.as_slice.result.now c.args.buffer.now c.put.new.buffer is c.put.result asked c.put.ensures.length c.put.ensures.bytes;
       again = again c.args.line.now ok c.as_slice.result.now c.args.buffer.now c.put.new.buffer is c.put.result asked c.put.ensures.length c.put.ensures.bytes;
     }
+
+pub returns-in_err-check-clause-length : goal.returns-in_err-check-clause-length
+returns-in_err-check-clause-length g c = search (rules, after_some)
+
+pub returns-in_err-check-clause-bytes : goal.returns-in_err-check-clause-bytes
+returns-in_err-check-clause-bytes g c = search (rules, after_some)
