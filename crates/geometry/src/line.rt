@@ -9,7 +9,7 @@ use policy::suite::Suite;
 
 // A line of a table: block size in bytes, number of sets, policy letter, number of ways. Lines are ordered by these in turn.
 // The numbers may be any; `check` tells whether they are allowed.
-#[derive(Clone, Copy, PartialEq, Eq, PartialOrd, Ord, Debug)]
+#[derive(Clone, Copy, PartialEq, Eq, PartialOrd, Ord, Default, Debug)]
 pub struct Line {
     pub block: u64,
     pub sets: u64,

@@ -4,25 +4,11 @@ use geometry::refusal::Refusal;
 use jobtext::fault::Fault;
 use policy::standard::STANDARD;
 
-// Lines stand by rising block size, then sets, then letter, then ways.
-fn is_greater(line: &Line, before: &Line) -> bool {
-    if line.block != before.block {
-        return line.block > before.block;
-    }
-    if line.sets != before.sets {
-        return line.sets > before.sets;
-    }
-    if line.letter != before.letter {
-        return line.letter > before.letter;
-    }
-    line.ways > before.ways
-}
-
 // Whether the bench can model the line, and whether it is greater than the one before.
 fn check_line(line: &Line, before: Option<Line>) -> Result<(), Refusal> {
     line.check(&STANDARD)?;
     match before {
-        Some(last) if !is_greater(line, &last) => Err(Refusal::Order),
+        Some(last) if *line <= last => Err(Refusal::Order),
         _ => Ok(()),
     }
 }
@@ -33,7 +19,7 @@ pub fn check_table(table: &[Line], job_line: u64) -> Result<(), Fault> {
         return Err(Fault {
             refusal: Refusal::TableSize,
             job_line,
-            table_line: 0,
+            table_line: None,
         });
     }
     let mut before = None;
@@ -44,7 +30,7 @@ pub fn check_table(table: &[Line], job_line: u64) -> Result<(), Fault> {
             return Err(Fault {
                 refusal,
                 job_line,
-                table_line,
+                table_line: Some(table_line),
             });
         }
         before = Some(*line);

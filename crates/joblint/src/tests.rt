@@ -5,7 +5,11 @@ use crate::survey::look_through;
 fn fault_of(job: &str) -> (u8, u64, u32) {
     match look_through(job.as_bytes()) {
         Ok(_) => (0, 0, 0),
-        Err(fault) => (fault.refusal.number(), fault.job_line, fault.table_line),
+        Err(fault) => (
+            fault.refusal.number(),
+            fault.job_line,
+            fault.table_line.unwrap_or(0),
+        ),
     }
 }
 

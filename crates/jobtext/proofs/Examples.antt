@@ -1,6 +1,6 @@
 -- Lines of a job and what they are read as.
 use Rattle.std.proofs.Common.{◌≡◌, ℕ, List, [], ◌∷◌, ◌++◌, replicate, None, Ok, Err, codes, refl}
-use Rattle.jobtext.specs.declared.record.AccessKind.TheVariants.{Read, Store}
+use Rattle.geometry.specs.declared.kind.AccessKind.TheVariants.{Read, Store}
 use Rattle.jobtext.specs.Entries.{table, access, window, comment}
 use Rattle.jobtext.specs.Forms.{read_text}
 use Rattle.jobtext.specs.Job.{before_all, blame_at, answer}

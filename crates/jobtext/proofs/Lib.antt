@@ -1,8 +1,4 @@
-pub mod Places
 pub mod Values
-pub mod Formed
-pub mod Lines
-pub mod States
 pub mod Figures
 pub mod Canonical
 pub mod ReadBack

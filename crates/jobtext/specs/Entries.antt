@@ -1,6 +1,6 @@
 -- What a line of a job says, as plain data: letters, digits and bytes.
 use Rattle.std.specs.Prelude.{ℕ, List}
-use Rattle.jobtext.specs.declared.record.AccessKind.{AccessKind}
+use Rattle.geometry.specs.declared.kind.AccessKind.{AccessKind}
 
 -- a line of a job
 pub data Entry : Type 0 where

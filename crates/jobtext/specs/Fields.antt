@@ -1,7 +1,7 @@
 -- Lines that end in a line feed, and their fields.
-use Rattle.std.specs.Prelude.{ℕ, Bool, cond, not, List, [], ◌∷◌, length, take, codes, ◌==◌, nat_lt, slice_index}
+use Rattle.std.specs.Prelude.{ℕ, Bool, not, List, length, take, codes, ◌==◌, nat_lt, slice_index}
 use Prim.Native.String.{String}
-use Rattle.std.specs.List.{prefix_len}
+use Rattle.std.specs.List.{prefix_len, slice_split}
 
 -- the byte of a character
 abbrev pub byte : String → ℕ
@@ -23,12 +23,6 @@ has_feed text = nat_lt (line_end text) (length (take 80 text))
 abbrev pub first_line : List ℕ → List ℕ
 first_line text = take (line_end text) text
 
--- a byte in front of the first field
-abbrev pub put : ℕ → List (List ℕ) → List (List ℕ)
-put b [] = (b ∷ []) ∷ []
-put b (f ∷ fs) = (b ∷ f) ∷ fs
-
 -- the fields of a line: its bytes, parted by commas
 abbrev pub fields : List ℕ → List (List ℕ)
-fields [] = [] ∷ []
-fields (b ∷ bs) = cond (b == (byte ",")) ([] ∷ fields bs) (put b (fields bs))
+fields bs = slice_split (λ b. b == (byte ",")) bs

@@ -1,9 +1,10 @@
 -- From the bytes of a line to its record, or to the number of the first question that it does not pass.
 use Rattle.std.specs.Prelude.{ℕ, ◌+◌, Bool, true, cond, ◌&&◌, List, [], ◌∷◌, length, Some, None, Ok, Err, Option, Result, ◌==◌, nat_le, slice_index, slice_index_or}
 use Rattle.geometry.specs.Refusal.{ask, first_no}
-use Rattle.jobtext.specs.declared.record.AccessKind.{AccessKind}
-use Rattle.jobtext.specs.declared.record.AccessKind.TheVariants.{Fetch, Read, Store}
-use Rattle.jobtext.specs.Numbers.{every, is_decimal, is_address}
+use Rattle.geometry.specs.declared.kind.AccessKind.{AccessKind}
+use Rattle.geometry.specs.declared.kind.AccessKind.TheVariants.{Fetch, Read, Store}
+use Rattle.std.specs.List.{list_all}
+use Rattle.jobtext.specs.Numbers.{is_decimal, is_address}
 use Rattle.jobtext.specs.Fields.{byte, fields, first_line, has_feed, line_end}
 use Rattle.jobtext.specs.Entries.{Entry, table, opened, access, window, off, frame, flush, zeroed, comment}
 
@@ -112,7 +113,7 @@ printable b = nat_le 32 b && nat_le b 126
 
 -- a comment holds any of these, commas too
 abbrev pub read_comment : List ℕ → Result Entry ℕ
-read_comment bs = answered (first_no (ask 3 (every printable bs) ∷ [])) (comment bs)
+read_comment bs = answered (first_no (ask 3 (list_all printable bs) ∷ [])) (comment bs)
 
 -- a line without its line feed; one that begins with # is a comment
 abbrev pub read_record : List ℕ → Result Entry ℕ

@@ -1,10 +1,9 @@
 -- How a job is read: its part, its table and its line numbers.
-use Rattle.std.specs.Prelude.{ℕ, ◌+◌, ◌-◌, ◌^◌, min, Bool, true, false, List, [], ◌∷◌, ◌++◌, length, take, Some, None, Ok, Err, Option, Result, nat_lt}
+use Rattle.std.specs.Prelude.{ℕ, ◌+◌, ◌-◌, ◌^◌, min, Bool, true, false, List, [], ◌∷◌, ◌++◌, length, Some, None, Ok, Err, Option, Result, nat_lt}
 use Rattle.geometry.specs.Refusal.{Question, ask, first_no}
 use Rattle.geometry.specs.declared.line.Line.{Line}
 use Rattle.jobtext.specs.declared.reader.Part.{Part}
 use Rattle.jobtext.specs.declared.reader.Part.TheVariants as part
-use Rattle.jobtext.specs.declared.reader.Reader.{Reader}
 use Rattle.jobtext.specs.declared.record.LineKind.{LineKind}
 use Rattle.jobtext.specs.declared.record.LineKind.TheVariants as kind
 use Rattle.jobtext.specs.Numbers.{digits_value}
@@ -36,10 +35,6 @@ pub record State : Type 0 where
 -- before the first line
 abbrev pub before_all : State
 before_all = record { part = part.Table; lines = []; job_line = 1 }
-
--- the state that a reader is in
-abbrev pub state_of : Reader → State
-state_of r = record { part = r.part; lines = take r.count r.lines; job_line = r.job_line }
 
 -- whether a line belongs in a part
 abbrev pub belongs : Part → LineKind → Bool
@@ -93,15 +88,15 @@ listed kind.Comment s = s
 abbrev pub admitted : State → Entry → State
 admitted s entry = moved (part_after s.part (kind_of entry)) (listed (kind_of entry) s)
 
--- a fault: the number of the question, the job line and the table line
+-- a fault: the number of the question, the job line, and the table line if there is one
 pub record Blame : Type 0 where
   pub number : ℕ
   pub job_line : ℕ
-  pub table_line : ℕ
+  pub table_line : Option ℕ
 
 -- the fault of the next line, which is of no table line
 abbrev pub blame_at : State → ℕ → Blame
-blame_at s n = record { number = n; job_line = s.job_line; table_line = 0 }
+blame_at s n = record { number = n; job_line = s.job_line; table_line = None }
 
 -- what a step answers: nothing at the end, a line and its length, or a fault
 abbrev pub Answer : Type 0

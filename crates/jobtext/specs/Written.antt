@@ -1,17 +1,12 @@
 -- What is written, and what a buffer then holds.
-use Rattle.std.specs.Prelude.{ℕ, Bool, cond, List, [], ◌∷◌, ◌++◌, length, take, drop, Some, None, Ok, Err, codes, decimal, Option, Result, nat_le}
+use Rattle.std.specs.Prelude.{ℕ, Bool, cond, List, [], ◌∷◌, ◌++◌, length, drop, Some, None, Ok, Err, codes, decimal, Option, Result, nat_le, unwrap_or}
 use Rattle.policy.specs.Three.{Three}
 use Rattle.geometry.specs.Line.{line_questions}
 use Rattle.geometry.specs.Refusal.{Question, ask, refusal_number}
 use Rattle.geometry.specs.declared.line.Line.{Line}
 use Rattle.geometry.specs.declared.refusal.Refusal.{Refusal}
-use Rattle.jobtext.specs.declared.text.Text.{Text}
 use Rattle.jobtext.specs.Fields.{byte}
 use Rattle.jobtext.specs.Job.{Blame}
-
--- the line that a text holds
-abbrev pub shown : Text → List ℕ
-shown t = take t.count t.bytes
 
 -- whether a buffer holds a text
 abbrev pub fits : List ℕ → List ℕ → Bool
@@ -53,7 +48,7 @@ write_questions p line buffer = line_questions p line ++ fit_question (line_text
 abbrev pub layer_of : ℕ → ℕ
 layer_of n = cond (nat_le n 4) (byte "T") (cond (nat_le n 11) (byte "C") (byte "B"))
 
--- q,job line,number,layer,table line and a line feed
+-- q,job line,number,layer,table line and a line feed; the table line is 0 where there is none
 abbrev pub fault_text : Blame → List ℕ
 fault_text b =
-    codes "q," ++ (decimal b.job_line ++ (codes "," ++ (decimal b.number ++ (codes "," ++ (layer_of b.number ∷ codes "," ++ (decimal b.table_line ++ feed))))))
+    codes "q," ++ (decimal b.job_line ++ (codes "," ++ (decimal b.number ++ (codes "," ++ (layer_of b.number ∷ codes "," ++ (decimal (unwrap_or b.table_line 0) ++ feed))))))

@@ -1,68 +1,37 @@
-// Writes a line byte by byte, and puts it into a buffer.
-ghost use Rattle.std.specs.Prelude.{◌≡◌, ◌+◌, ◌<◌, ◌≤◌, [], ◌∷◌, ◌++◌, length, decimal};
+// Adds fields to a line that is being written, and puts a text into a buffer.
+ghost use Rattle.std.specs.Prelude.{◌≡◌, ◌+◌, ◌≤◌, ◌∷◌, ◌++◌, decimal};
+ghost use Rattle.arrayvec.specs.ArrayVec.{array_vec_len};
 ghost use Rattle.geometry.specs.Refusal.{first_no};
-ghost use Rattle.jobtext.specs.Written.{counted, fit_question, overwritten, seen_length, shown};
+ghost use Rattle.jobtext.specs.Written.{counted, fit_question, overwritten, seen_length};
 
-use crate::text::Text;
+use crate::bytes::LONGEST;
+use arrayvec::ArrayVec;
 use geometry::refusal::Refusal;
+use itoa::Buffer;
 
-impl Text {
-    // An empty line.
-    pub(crate) fn new() -> Text
-        ensures line { shown result ≡ [] }
-        ensures count { result.count ≡ 0 }
-    {
-        Text {
-            bytes: [0; 80],
-            count: 0,
-        }
-    }
+// A line that is being written, byte by byte: of `write!` no contract tells that it succeeds.
+pub(crate) type Text = ArrayVec<u8, LONGEST>;
 
-    // One byte more.
-    pub(crate) fn push(&mut self, byte: u8)
-        requires { self.old.count < 80 }
-        ensures line { shown self.new ≡ shown self.old ++ byte ∷ [] }
-        ensures count { self.new.count ≡ self.old.count + 1 }
-    {
-        let count = self.count;
-        self.bytes[count] = byte;
-        self.count = count + 1;
-    }
+// A comma, and a number in decimal without leading zeros.
+pub(crate) fn push_field(text: &mut Text, n: u64)
+    requires { array_vec_len text.old + 21 ≤ LONGEST }
+    ensures line { text.new.items ≡ text.old.items ++ 44 ∷ decimal n }
+    ensures count { array_vec_len text.new ≤ array_vec_len text.old + 21 }
+{
+    text.push(b',');
+    text.try_extend_from_slice(Buffer::new().format(n).as_bytes())
+        .unwrap();
+}
 
-    // A number in decimal, without leading zeros.
-    pub(crate) fn push_number(&mut self, n: u64)
-        requires { self.old.count + length (decimal n) ≤ 80 }
-        ensures line { shown self.new ≡ shown self.old ++ decimal n }
-        ensures count { self.new.count ≡ self.old.count + length (decimal n) }
-    {
-        if n < 10 {
-            self.push(b'0' + n as u8);
-        } else {
-            self.push_number(n / 10);
-            self.push(b'0' + (n % 10) as u8);
-        }
+// Puts a text at the front of a buffer, if it fits there, and tells its length.
+pub(crate) fn put(text: &[u8], buffer: &mut [u8]) -> Result<usize, Refusal>
+    ensures length { seen_length result ≡ counted (first_no (fit_question text.now buffer.old)) text.now }
+    ensures bytes { buffer.new ≡ overwritten (first_no (fit_question text.now buffer.old)) text.now buffer.old }
+{
+    let count = text.len();
+    if count > buffer.len() {
+        return Err(Refusal::Buffer);
     }
-
-    // A comma and a number.
-    pub(crate) fn push_field(&mut self, n: u64)
-        requires { self.old.count + 21 ≤ 80 }
-        ensures line { shown self.new ≡ shown self.old ++ 44 ∷ decimal n }
-        ensures count { self.new.count ≤ self.old.count + 21 }
-    {
-        self.push(b',');
-        self.push_number(n);
-    }
-
-    // Puts the line at the front of a buffer, if it fits there, and tells its length.
-    pub(crate) fn copy_to(&self, buffer: &mut [u8]) -> Result<usize, Refusal>
-        ensures length { seen_length result ≡ counted (first_no (fit_question (shown self.now) buffer.old)) (shown self.now) }
-        ensures bytes { buffer.new ≡ overwritten (first_no (fit_question (shown self.now) buffer.old)) (shown self.now) buffer.old }
-    {
-        let count = self.count;
-        if count > buffer.len() {
-            return Err(Refusal::Buffer);
-        }
-        buffer[0..count].copy_from_slice(&self.bytes[0..count]);
-        Ok(count)
-    }
+    buffer[..count].copy_from_slice(text);
+    Ok(count)
 }

@@ -10,6 +10,5 @@ pub mod reader;
 pub mod record;
 pub mod report;
 pub mod steps;
-mod text;
 pub mod views;
 pub mod write;

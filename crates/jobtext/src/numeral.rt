@@ -1,109 +1,79 @@
 // Numbers as a line has them: digits that the line lends.
-ghost use Rattle.std.specs.Prelude.{◌≡◌};
-ghost use Rattle.jobtext.specs.Numbers.{base_of, digit_value, digits_value, every, is_digit, is_numeral, leading_zero};
+ghost use Rattle.std.specs.Prelude.{◌≡◌, true, false, IfOk, IfErr};
+ghost use Rattle.jobtext.specs.Numbers.{digit_value, digits_value, is_digit, is_numeral, leading_zero};
+ghost use Rattle.std.specs.List.{list_all};
 
-// The base that digits stand in.
+use geometry::refusal::Refusal;
+
+// Digits of a base, at most `MOST` of them.
 #[derive(Clone, Copy)]
-pub(crate) enum Base {
-    Ten,
-    Sixteen,
+pub struct Numeral<'a, const RADIX: u64, const MOST: usize> {
+    pub digits: &'a [u8],
 }
 
 // A decimal number.
-#[derive(Clone, Copy)]
-pub struct Decimal<'a> {
-    pub digits: &'a [u8],
-}
+pub type Decimal<'a> = Numeral<'a, 10, 10>;
 
 // A hexadecimal number.
-#[derive(Clone, Copy)]
-pub struct Hex<'a> {
-    pub digits: &'a [u8],
-}
+pub type Hex<'a> = Numeral<'a, 16, 9>;
 
 // Whether a byte is a digit of the base.
-fn digit_of(byte: u8, base: Base) -> bool
-    ensures { result ≡ is_digit base byte }
+fn is_digit(byte: u8, radix: u64) -> bool
+    ensures { result ≡ is_digit radix byte }
 {
-    match base {
-        Base::Ten => matches!(byte, b'0'..=b'9'),
-        Base::Sixteen => matches!(byte, b'0'..=b'9' | b'a'..=b'f'),
+    match byte {
+        b'0'..=b'9' => true,
+        b'a'..=b'f' => radix == 16,
+        _ => false,
     }
 }
 
 // Whether each byte is a digit of the base.
-fn all_digits(bytes: &[u8], base: Base) -> bool
-    ensures { result ≡ every (is_digit base) bytes.now }
+fn all_digits(bytes: &[u8], radix: u64) -> bool
+    ensures { result ≡ list_all (is_digit radix) bytes.now }
 {
-    for b in bytes {
-        if !digit_of(*b, base) {
-            return false;
-        }
-    }
-    true
+    bytes.iter().all(|b| is_digit(*b, radix))
 }
 
-// Whether a zero stands in front of further digits.
-fn leading_zero(bytes: &[u8]) -> bool
-    ensures { result ≡ leading_zero bytes.now }
-{
-    bytes.len() > 1 && bytes[0] == b'0'
-}
-
-// Whether the bytes are 1 to `most` digits without a leading zero.
-pub(crate) fn well_formed(bytes: &[u8], base: Base, most: usize) -> bool
-    ensures { result ≡ is_numeral base most bytes.now }
-{
-    !bytes.is_empty() && bytes.len() <= most && !leading_zero(bytes) && all_digits(bytes, base)
-}
-
-// The base as a number.
-fn radix_of(base: Base) -> u64
-    ensures { result ≡ base_of base }
-{
-    match base {
-        Base::Ten => 10,
-        Base::Sixteen => 16,
-    }
-}
-
-// What a digit counts.
+// What a digit counts. Bytes that are no digits count too, so `to_digit` does not serve.
 fn weight_of(byte: u8) -> u64
     ensures { result ≡ digit_value byte }
 {
-    if byte <= b'9' {
-        byte.saturating_sub(b'0') as u64
-    } else {
-        byte.saturating_sub(b'a' - 10) as u64
-    }
+    let zero = if byte <= b'9' { b'0' } else { b'a' - 10 };
+    u64::from(byte.saturating_sub(zero))
 }
 
 // The number that the digits write.
-fn value_of(digits: &[u8], base: Base) -> u64
-    ensures { result ≡ digits_value (base_of base) digits.now }
+fn value_of(digits: &[u8], radix: u64) -> u64
+    ensures { result ≡ digits_value radix digits.now }
 {
-    let radix = radix_of(base);
-    let mut value: u64 = 0;
-    for b in digits {
-        value = value.wrapping_mul(radix).wrapping_add(weight_of(*b));
-    }
-    value
+    digits.iter().fold(0, |value: u64, b| {
+        value.wrapping_mul(radix).wrapping_add(weight_of(*b))
+    })
 }
 
-impl Decimal<'_> {
-    // The number.
-    pub fn value(&self) -> u64
-        ensures { result ≡ digits_value 10 self.now.digits.now }
+impl<'a, const RADIX: u64, const MOST: usize> Numeral<'a, RADIX, MOST> {
+    // The field as a number, if it has 1 to `MOST` digits and no leading zero.
+    pub(crate) fn read(digits: &'a [u8]) -> Result<Self, Refusal>
+        ensures same { IfOk result (λ n. n.digits.now ≡ digits.now) }
+        ensures right { IfOk result (λ _. is_numeral RADIX MOST digits.now ≡ true) }
+        ensures kind { IfErr result (λ e. e ≡ Refusal.Malformed) }
+        ensures wrong { IfErr result (λ _. is_numeral RADIX MOST digits.now ≡ false) }
     {
-        value_of(self.digits, Base::Ten)
+        if digits.is_empty()
+            || digits.len() > MOST
+            || matches!(digits, [b'0', _, ..])
+            || !all_digits(digits, RADIX)
+        {
+            return Err(Refusal::Malformed);
+        }
+        Ok(Numeral { digits })
     }
-}
 
-impl Hex<'_> {
     // The number.
     pub fn value(&self) -> u64
-        ensures { result ≡ digits_value 16 self.now.digits.now }
+        ensures { result ≡ digits_value RADIX self.now.digits.now }
     {
-        value_of(self.digits, Base::Sixteen)
+        value_of(self.digits, RADIX)
     }
 }

@@ -1,72 +1,42 @@
 // Reads a line of a job.
-ghost use Rattle.std.specs.Prelude.{◌≡◌, ◌&&◌, [], IfOk};
+ghost use Rattle.std.specs.Prelude.{◌≡◌, ◌<◌, ◌≤◌, true, false, [], ◌∷◌, length, IfErr, IfOk};
+ghost use Rattle.std.specs.List.{list_all};
 ghost use Rattle.jobtext.specs.Fields.{fields};
-ghost use Rattle.jobtext.specs.Forms.{access_form, by_form, by_known, form_of, off_form, printable, read_comment, read_record, read_text, table_form, window_form};
+ghost use Rattle.jobtext.specs.Forms.{access_form, by_form, by_known, form_of, is_letter, off_form, printable, read_comment, read_record, read_text, table_form, window_form};
 ghost use Rattle.jobtext.specs.Round.{OneText};
-ghost use Rattle.jobtext.specs.Numbers.{is_address, is_decimal};
 ghost use Rattle.jobtext.specs.Seen.{seen, seen_line};
 
-use crate::bytes::{count_fields, line_end, split};
-use crate::numeral::{Base, Decimal, Hex, well_formed};
-use crate::record::{AccessKind, Record, TextLine};
+use crate::bytes::{fields, line_end};
+use crate::numeral::{Decimal, Hex};
+use crate::record::{Record, TextLine};
+use geometry::kind::AccessKind;
 use geometry::refusal::Refusal;
 
-// Whether a field is a decimal number.
-fn is_decimal(field: &[u8]) -> bool
-    ensures { result ≡ is_decimal field.now }
+// A field that is the letter of a policy.
+fn read_letter(field: &[u8]) -> Result<u8, Refusal>
+    ensures one { IfOk result (λ letter. field.now ≡ letter ∷ []) }
+    ensures right { IfOk result (λ _. is_letter field.now ≡ true) }
+    ensures kind { IfErr result (λ e. e ≡ Refusal.Malformed) }
+    ensures wrong { IfErr result (λ _. is_letter field.now ≡ false) }
 {
-    well_formed(field, Base::Ten, 10)
-}
-
-// Whether a field is an address.
-fn is_address(field: &[u8]) -> bool
-    ensures { result ≡ is_address field.now }
-{
-    well_formed(field, Base::Sixteen, 9)
-}
-
-// Whether three fields are decimal numbers.
-fn are_decimals(first: &[u8], second: &[u8], third: &[u8]) -> bool
-    ensures { result ≡ is_decimal first.now && (is_decimal second.now && is_decimal third.now) }
-{
-    is_decimal(first) && is_decimal(second) && is_decimal(third)
-}
-
-// Whether three fields are a decimal number and two addresses.
-fn are_bounds(number: &[u8], first: &[u8], end: &[u8]) -> bool
-    ensures { result ≡ is_decimal number.now && (is_address first.now && is_address end.now) }
-{
-    is_decimal(number) && is_address(first) && is_address(end)
-}
-
-// Whether a byte may stand in a comment.
-fn is_printable(byte: u8) -> bool
-    ensures { result ≡ printable byte }
-{
-    matches!(byte, b' '..=b'~')
+    match field {
+        [letter @ b'A'..=b'Z'] => Ok(*letter),
+        _ => Err(Refusal::Malformed),
+    }
 }
 
 // A table line after its `c` and the comma.
 fn read_table<'a>(rest: &'a [u8]) -> Result<Record<'a>, Refusal>
     ensures { seen result ≡ by_form table_form (fields rest.now) }
 {
-    if count_fields(rest) != 4 {
-        return Err(Refusal::Fields);
-    }
-    let [letter @ b'A'..=b'Z', b',', numbers @ ..] = rest else {
-        return Err(Refusal::Malformed);
-    };
-    let (sets, rest) = split(numbers);
-    let (block, ways) = split(rest);
-    if are_decimals(sets, block, ways) {
-        Ok(Record::Table {
-            letter: *letter,
-            sets: Decimal { digits: sets },
-            block: Decimal { digits: block },
-            ways: Decimal { digits: ways },
-        })
-    } else {
-        Err(Refusal::Malformed)
+    match fields(rest)?.as_slice() {
+        [letter, sets, block, ways] => Ok(Record::Table {
+            letter: read_letter(*letter)?,
+            sets: Decimal::read(*sets)?,
+            block: Decimal::read(*block)?,
+            ways: Decimal::read(*ways)?,
+        }),
+        _ => Err(Refusal::Fields),
     }
 }
 
@@ -74,15 +44,12 @@ fn read_table<'a>(rest: &'a [u8]) -> Result<Record<'a>, Refusal>
 fn read_access<'a>(kind: AccessKind, rest: &'a [u8]) -> Result<Record<'a>, Refusal>
     ensures { seen result ≡ by_form (access_form kind) (fields rest.now) }
 {
-    if count_fields(rest) != 1 {
-        Err(Refusal::Fields)
-    } else if is_address(rest) {
-        Ok(Record::Access {
+    match fields(rest)?.as_slice() {
+        [address] => Ok(Record::Access {
             kind,
-            address: Hex { digits: rest },
-        })
-    } else {
-        Err(Refusal::Malformed)
+            address: Hex::read(*address)?,
+        }),
+        _ => Err(Refusal::Fields),
     }
 }
 
@@ -90,19 +57,13 @@ fn read_access<'a>(kind: AccessKind, rest: &'a [u8]) -> Result<Record<'a>, Refus
 fn read_window<'a>(rest: &'a [u8]) -> Result<Record<'a>, Refusal>
     ensures { seen result ≡ by_form window_form (fields rest.now) }
 {
-    if count_fields(rest) != 3 {
-        return Err(Refusal::Fields);
-    }
-    let (number, rest) = split(rest);
-    let (first, end) = split(rest);
-    if are_bounds(number, first, end) {
-        Ok(Record::Window {
-            number: Decimal { digits: number },
-            first: Hex { digits: first },
-            end: Hex { digits: end },
-        })
-    } else {
-        Err(Refusal::Malformed)
+    match fields(rest)?.as_slice() {
+        [number, first, end] => Ok(Record::Window {
+            number: Decimal::read(*number)?,
+            first: Hex::read(*first)?,
+            end: Hex::read(*end)?,
+        }),
+        _ => Err(Refusal::Fields),
     }
 }
 
@@ -110,27 +71,30 @@ fn read_window<'a>(rest: &'a [u8]) -> Result<Record<'a>, Refusal>
 fn read_off<'a>(rest: &'a [u8]) -> Result<Record<'a>, Refusal>
     ensures { seen result ≡ by_form off_form (fields rest.now) }
 {
-    if count_fields(rest) != 1 {
-        Err(Refusal::Fields)
-    } else if is_decimal(rest) {
-        Ok(Record::Off {
-            number: Decimal { digits: rest },
-        })
-    } else {
-        Err(Refusal::Malformed)
+    match fields(rest)?.as_slice() {
+        [number] => Ok(Record::Off {
+            number: Decimal::read(*number)?,
+        }),
+        _ => Err(Refusal::Fields),
     }
+}
+
+// Whether each byte may stand in a comment.
+fn all_printable(text: &[u8]) -> bool
+    ensures { result ≡ list_all printable text.now }
+{
+    text.iter().all(|b| matches!(b, b' '..=b'~'))
 }
 
 // A comment after its sign.
 fn read_comment<'a>(text: &'a [u8]) -> Result<Record<'a>, Refusal>
     ensures { seen result ≡ read_comment text.now }
 {
-    for b in text {
-        if !is_printable(*b) {
-            return Err(Refusal::Malformed);
-        }
+    if all_printable(text) {
+        Ok(Record::Comment(text))
+    } else {
+        Err(Refusal::Malformed)
     }
-    Ok(Record::Comment(text))
 }
 
 // A line of several fields: the first one, and what follows its comma.
@@ -165,31 +129,25 @@ fn read_alone(first: char) -> Result<Record<'static>, Refusal>
 fn read_record<'a>(line: &'a [u8]) -> Result<Record<'a>, Refusal>
     ensures { seen result ≡ read_record line.now }
 {
-    if let [b'#', text @ ..] = line {
-        return read_comment(text);
+    match line {
+        [b'#', text @ ..] => read_comment(text),
+        [first, b',', rest @ ..] => read_fields(*first as char, rest),
+        [only] => read_alone(*only as char),
+        _ => Err(Refusal::Fields),
     }
-    if let [first, b',', rest @ ..] = line {
-        return read_fields(*first as char, rest);
-    }
-    if let [only] = line {
-        return read_alone(*only as char);
-    }
-    Err(Refusal::Fields)
 }
 
 // The first line of a text: its record and its length, or the first question that it does not pass.
 pub fn read_line<'a>(text: &'a [u8]) -> Result<TextLine<'a>, Refusal>
     ensures line { seen_line result ≡ read_text text.now }
+    ensures some { IfOk result (λ l. 0 < l.length) }
+    ensures within { IfOk result (λ l. l.length ≤ length text.now) }
     ensures apart { IfOk result (λ l. OneText text.now l.length) }
 {
-    let Some(end) = line_end(text) else {
-        return Err(Refusal::LineFeed);
-    };
-    match read_record(&text[0..end]) {
-        Ok(record) => Ok(TextLine {
-            record,
-            length: end + 1,
-        }),
-        Err(refusal) => Err(refusal),
-    }
+    let end = line_end(text).ok_or(Refusal::LineFeed)?;
+    let record = read_record(&text[..end])?;
+    Ok(TextLine {
+        record,
+        length: end + 1,
+    })
 }

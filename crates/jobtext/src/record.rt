@@ -1,14 +1,7 @@
 // What a line of a job says. Numbers and comments are lent by the text.
 use crate::numeral::{Decimal, Hex};
+use geometry::kind::AccessKind;
 use geometry::line::Line;
-
-// What an access does.
-#[derive(Clone, Copy, PartialEq, Eq, Debug)]
-pub enum AccessKind {
-    Fetch,
-    Read,
-    Store,
-}
 
 // Where a line may stand: a table line and the opening only before the run, a line of the run only in it.
 #[derive(Clone, Copy, PartialEq, Eq, Debug)]

@@ -2,14 +2,15 @@
 ghost use Rattle.std.specs.Prelude.{◌≡◌};
 ghost use Rattle.geometry.specs.Refusal.{first_no, refusal_number};
 ghost use Rattle.jobtext.specs.Seen.{blame_of};
-ghost use Rattle.jobtext.specs.Written.{counted, fault_text, fit_question, layer_of, overwritten, seen_length, shown};
+ghost use Rattle.jobtext.specs.Written.{counted, fault_text, fit_question, layer_of, overwritten, seen_length};
 
+use crate::compose::{Text, push_field, put};
 use crate::fault::Fault;
-use crate::text::Text;
 use geometry::refusal::Refusal;
 
 impl Fault {
-    // The letter of the layer that refuses: T for the text, C for the caches, B for the bench.
+    // The letter of the layer that refuses: T for the text, C for the caches, B for the bench. Each layer has a range of
+    // numbers, which the names of the refusals would not say shorter.
     pub fn layer(&self) -> u8
         ensures { result ≡ layer_of (refusal_number self.now.refusal) }
     {
@@ -22,15 +23,15 @@ impl Fault {
 
     // The fault as a line.
     fn text(&self) -> Text
-        ensures { shown result ≡ fault_text (blame_of self.now) }
+        ensures { result.items ≡ fault_text (blame_of self.now) }
     {
         let mut text = Text::new();
         text.push(b'q');
-        text.push_field(self.job_line);
-        text.push_field(self.refusal.number() as u64);
+        push_field(&mut text, self.job_line);
+        push_field(&mut text, u64::from(self.refusal.number()));
         text.push(b',');
         text.push(self.layer());
-        text.push_field(self.table_line as u64);
+        push_field(&mut text, u64::from(self.table_line.unwrap_or(0)));
         text.push(b'\n');
         text
     }
@@ -40,6 +41,6 @@ impl Fault {
         ensures length { seen_length result ≡ counted (first_no (fit_question (fault_text (blame_of self.now)) buffer.old)) (fault_text (blame_of self.now)) }
         ensures bytes { buffer.new ≡ overwritten (first_no (fit_question (fault_text (blame_of self.now)) buffer.old)) (fault_text (blame_of self.now)) buffer.old }
     {
-        self.text().copy_to(buffer)
+        put(self.text().as_slice(), buffer)
     }
 }

@@ -3,11 +3,12 @@ ghost use Rattle.std.specs.Prelude.{◌≡◌, IfOk, decimal};
 ghost use Rattle.policy.specs.Three.{three};
 ghost use Rattle.geometry.specs.Refusal.{first_no};
 ghost use Rattle.jobtext.specs.Round.{ReadsAs, WrittenBack};
-ghost use Rattle.jobtext.specs.Written.{counted, fit_question, line_text, overwritten, seen_length, shown, write_questions};
+ghost use Rattle.jobtext.specs.Written.{counted, fit_question, line_text, overwritten, seen_length, write_questions};
 
-use crate::text::Text;
+use crate::compose::{Text, push_field, put};
 use geometry::line::Line;
 use geometry::refusal::Refusal;
+use itoa::Buffer;
 use policy::three::Policies;
 use policy::traits::{Nesting, Policy};
 
@@ -16,22 +17,20 @@ pub fn write_number(n: u64, buffer: &mut [u8]) -> Result<usize, Refusal>
     ensures length { seen_length result ≡ counted (first_no (fit_question (decimal n) buffer.old)) (decimal n) }
     ensures bytes { buffer.new ≡ overwritten (first_no (fit_question (decimal n) buffer.old)) (decimal n) buffer.old }
 {
-    let mut text = Text::new();
-    text.push_number(n);
-    text.copy_to(buffer)
+    put(Buffer::new().format(n).as_bytes(), buffer)
 }
 
 // A table line as a job has it.
 fn line_text(line: &Line) -> Text
-    ensures { shown result ≡ line_text line.now }
+    ensures { result.items ≡ line_text line.now }
 {
     let mut text = Text::new();
     text.push(b'c');
     text.push(b',');
     text.push(line.letter);
-    text.push_field(line.sets);
-    text.push_field(line.block);
-    text.push_field(line.ways);
+    push_field(&mut text, line.sets);
+    push_field(&mut text, line.block);
+    push_field(&mut text, line.ways);
     text.push(b'\n');
     text
 }
@@ -47,8 +46,6 @@ pub fn write_line<A: Nesting, B: Nesting, C: Policy>(
     ensures back { IfOk result (λ n. ReadsAs buffer.new n line.now) }
     ensures again { IfOk result (λ n. WrittenBack line.now buffer.new n) }
 {
-    match line.check(policies) {
-        Ok(_geometry) => line_text(line).copy_to(buffer),
-        Err(refusal) => Err(refusal),
-    }
+    line.check(policies)?;
+    put(line_text(line).as_slice(), buffer)
 }

@@ -1,15 +1,7 @@
 // Records and faults in words.
 use jobtext::fault::Fault;
-use jobtext::record::{AccessKind, Record};
+use jobtext::record::Record;
 use std::{fmt, str};
-
-fn kind_name(kind: AccessKind) -> &'static str {
-    match kind {
-        AccessKind::Fetch => "fetch",
-        AccessKind::Read => "read",
-        AccessKind::Store => "store",
-    }
-}
 
 #[derive(Clone, Copy)]
 pub struct InWords<'a>(pub &'a Record<'a>);
@@ -29,7 +21,7 @@ impl fmt::Display for InWords<'_> {
             }
             Record::Open => write!(f, "open"),
             Record::Access { kind, address } => {
-                write!(f, "{} {}", kind_name(*kind), address.value())
+                write!(f, "{kind} {}", address.value())
             }
             Record::Window { number, first, end } => {
                 let (number, first, end) = (number.value(), first.value(), end.value());

@@ -1,6 +1,6 @@
-use Rattle.std.proofs.Common.{rules}
-use Rattle.jobtext.proofs.Formed.{other_first}
+use Rattle.std.proofs.Common.{◌==◌, rules}
+use Rattle.std.proofs.lemmas.List.Splits.{length-slice_split}
 use Rattle.jobtext.proofs.read.read_fields.Goals as goal
 
 pub returns-in_default : goal.returns-in_default
-returns-in_default c = other_first c.args.first c.args.rest.now (search rules) (search rules) (search rules) (search rules) (search rules) (search rules)
+returns-in_default c = let n = length-slice_split (λ b. b == 44) c.args.rest.now in search rules

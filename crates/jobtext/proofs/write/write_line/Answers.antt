@@ -1,19 +1,28 @@
+use Rattle.std.proofs.Common.{rules, ◌∙◌}
+use Rattle.geometry.proofs.Asked.{after_some}
 use Rattle.policy.specs.Three.{three}
 use Rattle.policy.proofs.Lawful.{lawful_of}
-use Rattle.jobtext.specs.Written.{shown}
-use Rattle.jobtext.proofs.Rounds.{allowed, refused, wrote}
+use Rattle.geometry.specs.Refusal.{first_no}
+use Rattle.jobtext.specs.Written.{fit_question}
+use Rattle.jobtext.proofs.Rounds.{again, allowed, back}
 use Rattle.jobtext.proofs.write.write_line.Goals as goal
 
-pub returns-in-Ok : goal.returns-in-Ok
-returns-in-Ok g c =
+pub returns : goal.returns
+returns g c =
     let p = three g.A.Policy.meaning g.B.Policy.meaning g.C.Policy.meaning in
     let laws = lawful_of p g.met.A.Policy.lawful g.met.B.Policy.lawful g.met.C.Policy.lawful in
-    let ok = allowed p c.args.line.now c.in-Ok._geometry laws c.in-Ok.ensures.geometry in
-    let w = wrote p c.args.line.now c.args.buffer.now c.copy_to.new.buffer (shown c.line_text.result) c.copy_to.result c.line_text.ensures c.copy_to.ensures.length c.copy_to.ensures.bytes c.in-Ok.ensures.passes ok in
-    record { length = w.length; bytes = w.bytes; back = w.back; again = w.again }
+    let ok = allowed p c.args.line.now c.in_ok-check.field-0 laws c.in_ok-check.ensures.geometry in
+    let asked = first_no (fit_question c.as_slice.result.now c.args.buffer.now) in
+    let is = c.as_slice.ensures.value ∙ c.line_text.ensures in
+    record {
+      length = search rules;
+      bytes = search rules;
+      back = back c.args.line.now ok c.as_slice.result.now c.args.buffer.now c.put.new.buffer is c.put.result asked c.put.ensures.length c.put.ensures.bytes;
+      again = again c.args.line.now ok c.as_slice.result.now c.args.buffer.now c.put.new.buffer is c.put.result asked c.put.ensures.length c.put.ensures.bytes;
+    }
 
-pub returns-in-Err : goal.returns-in-Err
-returns-in-Err g c =
-    let p = three g.A.Policy.meaning g.B.Policy.meaning g.C.Policy.meaning in
-    let w = refused p c.args.line.now c.args.buffer.now c.in-Err.refusal c.in-Err.ensures.passes in
-    record { length = w.length; bytes = w.bytes; back = tt; again = tt }
+pub returns-in_err-check-clause-length : goal.returns-in_err-check-clause-length
+returns-in_err-check-clause-length g c = search (rules, after_some)
+
+pub returns-in_err-check-clause-bytes : goal.returns-in_err-check-clause-bytes
+returns-in_err-check-clause-bytes g c = search (rules, after_some)

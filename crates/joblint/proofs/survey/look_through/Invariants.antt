@@ -1,6 +1,5 @@
--- Each turn reads a line of the rest, which gets shorter.
 use Rattle.std.proofs.Common.{length}
-use Rattle.text_trials.proofs.answer.read_job.Given as goal
+use Rattle.joblint.proofs.survey.look_through.Given as goal
 
 abbrev pub decreases-loop-line : goal.decreases-loop-line
 decreases-loop-line l = length l.rest
