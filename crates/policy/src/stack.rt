@@ -15,9 +15,9 @@ fn count_of(row: &[u32]) -> usize
     ensures count { result ≡ length (residents_of row.now) }
     ensures width { result < 2 ^ 32 }
 {
-    match row.first() {
-        Some(head) => (row.len() - 1).min(*head as usize),
-        None => 0,
+    match row {
+        [head, words @ ..] => words.len().min(*head as usize),
+        [] => 0,
     }
 }
 
@@ -27,11 +27,10 @@ pub fn residents(row: &[u32]) -> &[u32]
     ensures fifo { OnLayout fifo }
     ensures lru { OnLayout lru }
 {
-    if row.is_empty() {
-        return row;
+    match row {
+        [_, words @ ..] => &words[..count_of(row)],
+        [] => row,
     }
-    let end = count_of(row) + 1;
-    &row[1..end]
 }
 
 // Whether the tag is among the words, and how many of them it was compared with.
@@ -39,33 +38,29 @@ pub(crate) fn find(words: &[u32], tag: u32) -> (bool, usize)
     ensures hit { result.0 ≡ member tag words.now }
     ensures comparisons { result.1 ≡ place tag words.now }
 {
-    for (i, word) in words.iter().enumerate() {
-        if *word == tag {
-            return (true, i + 1);
-        }
+    match words.iter().position(|word| *word == tag) {
+        Some(i) => (true, i + 1),
+        None => (false, words.len()),
     }
-    (false, words.len())
 }
 
 // Puts the tag in front and moves every word up by one; the last one is dropped.
 fn push_front(words: &mut [u32], tag: u32)
     ensures { words.new ≡ take (length words.old) (tag ∷ words.old) }
 {
-    let mut carried = tag;
-    for word in words.iter_mut() {
-        let next = *word;
-        *word = carried;
-        carried = next;
+    if !words.is_empty() {
+        words.rotate_right(1);
+        words[0] = tag;
     }
 }
 
 // Puts the tag in front of the residents, over the one at `last`, and writes their number.
 fn move_front(row: &mut [u32], last: usize, count: usize, tag: u32)
-    requires { (last < length row.old) × (count < 2 ^ 32) }
+    requires place { last < length row.old }
+    requires width { count < 2 ^ 32 }
     ensures { row.new ≡ count ∷ (take last (tag ∷ drop 1 row.old) ++ drop last (drop 1 row.old)) }
 {
-    let end = last + 1;
-    push_front(&mut row[1..end], tag);
+    push_front(&mut row[1..=last], tag);
     row[0] = count as u32;
 }
 
@@ -74,14 +69,13 @@ pub(crate) fn keep(row: &mut [u32], tag: u32)
     requires { member tag (residents_of row.old) ≡ true }
     ensures { row.new ≡ touched_row fifo row.old tag }
 {
-    if !row.is_empty() {
-        row[0] = count_of(row) as u32;
-    }
+    row[0] = count_of(row) as u32;
 }
 
 // Moves a resident, found at a place from 1, to the front.
 pub(crate) fn promote(row: &mut [u32], at: usize, tag: u32)
-    requires { (member tag (residents_of row.old) ≡ true) × (at ≡ place tag (residents_of row.old)) }
+    requires resident { member tag (residents_of row.old) ≡ true }
+    requires place { at ≡ place tag (residents_of row.old) }
     ensures { row.new ≡ touched_row lru row.old tag }
 {
     let count = count_of(row);
@@ -97,9 +91,7 @@ pub(crate) fn admit(row: &mut [u32], tag: u32)
     if row.is_empty() {
         return;
     }
-    let count = count_of(row);
-    let ways = ways_of(row);
-    let last = if count < ways { count + 1 } else { ways };
+    let last = (count_of(row) + 1).min(ways_of(row));
     move_front(row, last, last, tag);
 }
 
@@ -110,8 +102,7 @@ pub(crate) fn copy_first(wide: &[u32], narrow: &mut [u32])
     narrow.fill(0);
     let kept = count_of(wide).min(narrow.len().saturating_sub(1));
     if kept > 0 {
-        let end = kept + 1;
         narrow[0] = kept as u32;
-        narrow[1..end].copy_from_slice(&wide[1..end]);
+        narrow[1..=kept].copy_from_slice(&wide[1..=kept]);
     }
 }

@@ -1,20 +1,24 @@
-use Rattle.std.proofs.Common.{◌≡◌, length, sym, ◌∙◌, arith}
-use Rattle.policy.proofs.Find.{found_here, found_later, found_nowhere}
+-- The answer of the search is the position of the first word that is the tag.
+use Rattle.std.proofs.Common.{rules, ◌≡◌, ◌==◌, subst, sym, ◌∙◌, arith}
+use Rattle.std.proofs.lemmas.Iterator.{YieldsList-from_slice}
+use Rattle.std.proofs.lemmas.Iterator.Search.{position_from_yields_List}
+use borrow.Author.Tests.{tests}
+use Rattle.std.specs.List.{position}
+use Rattle.policy.proofs.Find.{Says, says}
 use Rattle.policy.proofs.stack.find.Goals as goal
 
-pub returns-then-word-tag : goal.returns-then-word-tag
-returns-then-word-tag c =
-    let here = found_here c.args.tag c.loop-i.i c.args.words.now c.loop-i-test.true c.if-word-tag.true in
-    record { hit = sym here.0 ∙ c.loop-i.invariant.0; comparisons = sym here.1 ∙ c.loop-i.invariant.1 }
+pub returns-in-Some : goal.returns-in-Some
+returns-in-Some c =
+    let t = c.args.tag in
+    let ws = c.args.words.now in
+    let at = position_from_yields_List (λ x. x == t) _ _ _ c.position.ensures.ran (YieldsList-from_slice ws cc) (λ x b q k. search (rules, tests)) in
+    let says = subst (Says t ws 0) (sym at ∙ c.in-Some.is) (says t ws) in
+    record { hit = sym says.0; comparisons = omega arith }
 
-pub loop-i-preserved : goal.loop-i-preserved
-loop-i-preserved c =
-    let later = found_later c.args.tag c.loop-i.i c.args.words.now c.loop-i-test.true c.if-word-tag.false in
-    (sym later.0 ∙ c.loop-i.invariant.0, sym later.1 ∙ c.loop-i.invariant.1)
-
-pub returns : goal.returns
-returns c =
-    let i = c.loop-i.i in
-    let nowhere = found_nowhere c.args.tag i c.args.words.now c.loop-i-test.false in
-    let all : length c.args.words.now ≡ i = omega arith in
-    record { hit = sym nowhere.0 ∙ c.loop-i.invariant.0; comparisons = all ∙ sym nowhere.1 ∙ c.loop-i.invariant.1 }
+pub returns-in-None : goal.returns-in-None
+returns-in-None c =
+    let t = c.args.tag in
+    let ws = c.args.words.now in
+    let at = position_from_yields_List (λ x. x == t) _ _ _ c.position.ensures.ran (YieldsList-from_slice ws cc) (λ x b q k. search (rules, tests)) in
+    let says = subst (Says t ws 0) (sym at ∙ c.in-None.is) (says t ws) in
+    record { hit = sym says.0; comparisons = sym says.1 }
