@@ -1,6 +1,6 @@
 // Numbers as a line has them: digits that the line lends.
 ghost use Rattle.std.specs.Prelude.{◌≡◌, true, false, IfOk, IfErr};
-ghost use Rattle.jobtext.specs.Numbers.{digit_value, digits_value, is_digit, is_numeral, leading_zero};
+ghost use Rattle.jobtext.specs.Numbers.{digit_value, digits_value, is_digit, is_numeral};
 ghost use Rattle.std.specs.List.{list_all};
 
 use geometry::refusal::Refusal;

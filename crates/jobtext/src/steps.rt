@@ -1,6 +1,6 @@
 // Reads a job line by line.
-ghost use Rattle.std.specs.Prelude.{◌≡◌, ◌<◌, ◌≤◌, length, IfOk, IfSome, Some, None, MatchResult, OnErr, OnOk};
-ghost use Rattle.geometry.specs.Refusal.{first_no, refusal_number};
+ghost use Rattle.std.specs.Prelude.{◌≡◌, ◌<◌, ◌≤◌, length, IfOk, IfSome, Some, None, OnErr, OnOk};
+ghost use Rattle.geometry.specs.Refusal.{Answers};
 ghost use Rattle.jobtext.specs.Job.{admitted, after, answer, before_all, kind_of, questions};
 ghost use Rattle.jobtext.specs.Seen.{entry_of, seen_step};
 
@@ -50,7 +50,7 @@ impl Reader {
 
     // Lets a record in, or tells why it does not belong here.
     fn admit(&mut self, next: &Record) -> Result<(), Refusal>
-        ensures answer { MatchResult result (λ _. first_no (questions self.old (entry_of next.now)) ≡ None) (λ e. first_no (questions self.old (entry_of next.now)) ≡ Some (refusal_number e)) }
+        ensures answer { Answers (questions self.old (entry_of next.now)) result }
         ensures let_in { OnOk result (self.new ≡ admitted self.old (entry_of next.now)) }
         ensures refused { OnErr result (self.new ≡ self.old) }
     {

@@ -1,6 +1,5 @@
 // Writes numbers and table lines into a lent buffer.
 ghost use Rattle.std.specs.Prelude.{◌≡◌, IfOk, decimal};
-ghost use Rattle.policy.specs.Three.{three};
 ghost use Rattle.geometry.specs.Refusal.{first_no};
 ghost use Rattle.jobtext.specs.Round.{ReadsAs, WrittenBack};
 ghost use Rattle.jobtext.specs.Written.{counted, fit_question, line_text, overwritten, seen_length, write_questions};
@@ -9,8 +8,7 @@ use crate::compose::{Text, push_field, put};
 use geometry::line::Line;
 use geometry::refusal::Refusal;
 use itoa::Buffer;
-use policy::three::Policies;
-use policy::traits::{Nesting, Policy};
+use policy::suite::Suite;
 
 // Writes a number in decimal, without leading zeros, and tells its length.
 pub fn write_number(n: u64, buffer: &mut [u8]) -> Result<usize, Refusal>
@@ -36,13 +34,9 @@ fn line_text(line: &Line) -> Text
 }
 
 // Writes a table line that is allowed, with its line feed, and tells its length.
-pub fn write_line<A: Nesting, B: Nesting, C: Policy>(
-    line: &Line,
-    policies: &Policies<A, B, C>,
-    buffer: &mut [u8],
-) -> Result<usize, Refusal>
-    ensures length { seen_length result ≡ counted (first_no (write_questions (three A.Policy.meaning B.Policy.meaning C.Policy.meaning) line.now buffer.old)) (line_text line.now) }
-    ensures bytes { buffer.new ≡ overwritten (first_no (write_questions (three A.Policy.meaning B.Policy.meaning C.Policy.meaning) line.now buffer.old)) (line_text line.now) buffer.old }
+pub fn write_line<S: Suite>(line: &Line, policies: &S, buffer: &mut [u8]) -> Result<usize, Refusal>
+    ensures length { seen_length result ≡ counted (first_no (write_questions S.suite.three line.now buffer.old)) (line_text line.now) }
+    ensures bytes { buffer.new ≡ overwritten (first_no (write_questions S.suite.three line.now buffer.old)) (line_text line.now) buffer.old }
     ensures back { IfOk result (λ n. ReadsAs buffer.new n line.now) }
     ensures again { IfOk result (λ n. WrittenBack line.now buffer.new n) }
 {

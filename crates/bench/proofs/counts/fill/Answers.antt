@@ -13,11 +13,3 @@ loop-k-preserved c =
     ap (λ r. set c.loop-k.records k r) c.record_of.ensures
     ∙ ap (λ rs. set rs k (record_of c.args.cached.now (get_or ms k []))) c.loop-k.invariant
     ∙ record_more c.args.cached.now ms c.args.records.now k [] c.record_of.result low room
-
-pub returns : goal.returns
-returns c =
-    let ms = c.args.misses.now in
-    let done : c.loop-k.k ≡ length ms = omega (arith, c.loop-k-test.false, c.loop-k.auto.k-end) in
-    c.loop-k.invariant
-    ∙ ap (λ n. map (record_of c.args.cached.now) (take n ms) ++ drop n c.args.records.now) done
-    ∙ ap (λ xs. map (record_of c.args.cached.now) xs ++ drop (length ms) c.args.records.now) (take_all (length ms) ms (omega arith))

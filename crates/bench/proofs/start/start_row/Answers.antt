@@ -2,11 +2,6 @@ use Rattle.std.proofs.Common.{rules}
 use Rattle.bench.proofs.StartedRows.{row_follows, row_leads}
 use Rattle.bench.proofs.start.start_row.Goals as goal
 
-pub returns-then-follows : goal.returns-then-follows
-returns-then-follows g c =
-    let s = g.S.Suite.suite in
-    row_follows s c.args.follows c.args.member c.args.row.now c.fill.new.self c.requires c.if-follows.true (search rules)
-
 pub returns-else-follows : goal.returns-else-follows
 returns-else-follows g c =
     let s = g.S.Suite.suite in

@@ -9,8 +9,8 @@ use Rattle.jobtext.proofs.write.write_line.Goals as goal
 
 pub returns : goal.returns
 returns g c =
-    let p = three g.A.Policy.meaning g.B.Policy.meaning g.C.Policy.meaning in
-    let laws = lawful_of p g.met.A.Policy.lawful g.met.B.Policy.lawful g.met.C.Policy.lawful in
+    let p = g.S.Suite.suite.three in
+    let laws = g.met.S.Suite.lawful.laws in
     let ok = allowed p c.args.line.now c.in_ok-check.field-0 laws c.in_ok-check.ensures.geometry in
     let asked = first_no (fit_question c.as_slice.result.now c.args.buffer.now) in
     let is = c.as_slice.ensures.value ∙ c.line_text.ensures in

@@ -28,13 +28,3 @@ returns g c =
       few = few;
       allowed = all_allowed xs accesses;
     }
-
--- a line that is refused
-pub returns-in_err-geometry : goal.returns-in_err-geometry
-returns-in_err-geometry g c =
-    let p = g.S.Suite.suite.three in
-    let out = err_from_is_err_and c.from_residual.result c.from_residual.ensures.1 in
-    let xs = c.args.accesses.now in
-    let line = c.args.line.now in
-    rw (out.1, out.2)
-    (after_some (line_questions p line) (ask 11 (leb (need line) c.args.words) ∷ ask 14 (leb (length xs) 4294967295) ∷ access_questions xs) (refusal_number c.in_err-geometry.field-0.0) (c.in_err-geometry.ensures.passes))

@@ -27,11 +27,3 @@ loop-access-preserved g c =
     let G = going (g.met.S.Suite.lawful.laws geometry.member) c.requires.takes (pow_pos geometry.set_bits) c.requires.allowed c.requires.few c.loop-access-test.true c.loop-access.invariant in
     tracks_more G _ c.in-Ok.ensures c.touch-hit.result.0 c.touch-hit.result.1 c.touch-hit.new.memory c.add.new.self
     c.touch-hit.ensures.hit c.touch-hit.ensures.comparisons c.touch-hit.ensures.row c.add.ensures.misses c.add.ensures.hits
-
-pub returns : goal.returns
-returns g c =
-    let m = policy_of g.S.Suite.suite.three c.args.self.now.geometry.member in
-    subst
-    (λ xs. Tracks m (2 ^ c.args.self.now.geometry.block_bits) (2 ^ c.args.self.now.geometry.set_bits) c.args.self.now.geometry.ways xs
-    (drop (2 ^ c.args.self.now.geometry.set_bits * (c.args.self.now.geometry.ways + 1)) c.args.memory.now) c.loop-access.memory c.loop-access.counts c.loop-access.comparisons)
-    (take_all c.loop-access.access-index c.args.accesses.now c.loop-access-test.false) c.loop-access.invariant
