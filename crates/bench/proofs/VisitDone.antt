@@ -5,7 +5,7 @@ use Rattle.std.proofs.lemmas.Bool.{cond-true, cond-false, cond_both}
 use Rattle.bench.specs.Direct.{direct_after, direct_compared, direct_hit, filled}
 use Rattle.bench.specs.Entries.{all_counted, capped}
 use Rattle.bench.specs.Group.{SetSwept}
-use Rattle.bench.specs.Level.{Done, all_hit, hit_level, miss_level, visit}
+use Rattle.bench.specs.Level.{Done, hit_level, miss_level, visit}
 use Rattle.bench.specs.Mixed.{Leads, Owned}
 use Rattle.bench.specs.Rows.{Stepped}
 use Rattle.bench.specs.Words.{Kin}

@@ -1,7 +1,8 @@
-// A case as a line of the input: L or J for a line or a job, the answer, and the text, parted by bars.
+// A case of the input: L or J for a line or a job, the answer, and the text, parted by bars and ended by a line feed.
+ghost use Rattle.std.specs.Prelude.{◌<◌, length, IfOk, IfSome};
+
 use crate::escape::Unescaped;
-use anyhow::{Context, bail};
-use std::alloc::Global;
+use std::alloc::{AllocError, Global};
 
 // What is read.
 #[derive(Clone, Copy, PartialEq, Eq, Debug)]
@@ -13,21 +14,37 @@ pub enum Sort {
 #[derive(Drop)]
 pub struct Case<'a> {
     pub sort: Sort,
-    pub answer: &'a str,
+    pub answer: &'a [u8],
     pub text: Vec<u8>,
 }
 
+// The bytes before the first one that is `byte`, and those after it.
+fn split_once(bytes: &[u8], byte: u8) -> Option<(&[u8], &[u8])>
+    ensures { IfSome result (λ parts. length parts.1.now < length bytes.now) }
+{
+    let end = bytes.iter().position(|b| *b == byte)?;
+    Some((&bytes[..end], &bytes[end + 1..]))
+}
+
 impl<'a> Case<'a> {
-    // Takes a line of the input apart.
-    pub fn parse(heap: Global, line: &'a str) -> anyhow::Result<Case<'a>> {
-        let (sort, rest) = line.split_once('|').context("a case without an answer")?;
-        let (answer, text) = rest.split_once('|').context("a case without a text")?;
-        let sort = match sort {
-            "L" => Sort::Line,
-            "J" => Sort::Job,
-            _ => bail!("a case that is neither a line nor a job"),
+    // The next case and the input after it, or none where no case is left.
+    pub fn next(heap: Global, input: &'a [u8]) -> Result<Option<(Case<'a>, &'a [u8])>, AllocError>
+        ensures { IfOk result (λ next. IfSome next (λ parts. length parts.1.now < length input.now)) }
+    {
+        let Some((sort, rest)) = split_once(input, b'|') else {
+            return Ok(None);
         };
-        let text = Unescaped(text.as_bytes()).collect(heap)?;
-        Ok(Case { sort, answer, text })
+        let Some((answer, rest)) = split_once(rest, b'|') else {
+            return Ok(None);
+        };
+        let Some((text, rest)) = split_once(rest, b'\n') else {
+            return Ok(None);
+        };
+        let sort = match sort {
+            [.., b'J'] => Sort::Job,
+            _ => Sort::Line,
+        };
+        let text = Unescaped(text).collect(heap)?;
+        Ok(Some((Case { sort, answer, text }, rest)))
     }
 }

@@ -9,7 +9,7 @@ mod shown;
 use answer::Answer;
 use anyhow::ensure;
 use case::{Case, Sort};
-use std::io::Read;
+use std::io::{Read, Write};
 
 #[derive(Clone, Copy, Default)]
 struct Tally {
@@ -25,19 +25,23 @@ fn judge(rt: &HostRuntime, case: &Case, tally: &mut Tally) -> anyhow::Result<()>
         Sort::Job => tally.jobs = tally.jobs.saturating_add(1),
     }
     let answer = Answer::to(case).to_string(rt.alloc())?;
-    if answer.as_str() != case.answer {
+    if answer.as_bytes() != case.answer {
         tally.wrong = tally.wrong.saturating_add(1);
-        println!(rt; "expected: {}\ngot: {answer}", case.answer)?;
+        rt.stdout().write_all(b"expected: ")?;
+        rt.stdout().write_all(case.answer)?;
+        println!(rt; "\ngot: {answer}")?;
     }
     Ok(())
 }
 
 fn judge_all(rt: &HostRuntime) -> anyhow::Result<Tally> {
-    let mut input = String::new(rt.alloc());
-    rt.stdin().read_to_string(&mut input)?;
+    let mut input = Vec::new(rt.alloc());
+    rt.stdin().read_to_end(&mut input)?;
     let mut tally = Tally::default();
-    for line in input.lines() {
-        judge(rt, &Case::parse(rt.alloc(), line)?, &mut tally)?;
+    let mut rest = input.as_slice();
+    while let Some((case, later)) = Case::next(rt.alloc(), rest)? {
+        judge(rt, &case, &mut tally)?;
+        rest = later;
     }
     Ok(tally)
 }

@@ -20,9 +20,7 @@ impl fmt::Display for InWords<'_> {
                 write!(f, "table {letter} {sets} {block} {ways}")
             }
             Record::Open => write!(f, "open"),
-            Record::Access { kind, address } => {
-                write!(f, "{kind} {}", address.value())
-            }
+            Record::Access { kind, address } => { write!(f, "{kind} {}", address.value()) }
             Record::Window { number, first, end } => {
                 let (number, first, end) = (number.value(), first.value(), end.value());
                 write!(f, "window {number} from {first} to {end}")

@@ -1,5 +1,4 @@
-use Rattle.std.proofs.Common.{◌≡◌, ◌<◌, [], ◌++◌, map, length, get_or, take, drop, set, ap, ◌∙◌, arith}
-use Rattle.std.proofs.lemmas.List.{take_all}
+use Rattle.std.proofs.Common.{◌<◌, [], length, get_or, set, ap, ◌∙◌, arith}
 use Rattle.bench.specs.Counted.{record_of}
 use Rattle.bench.proofs.Records.{record_more}
 use Rattle.bench.proofs.counts.fill.Goals as goal

@@ -1,5 +1,4 @@
-use Rattle.std.proofs.Common.{rules}
-use Rattle.bench.proofs.StartedRows.{row_follows, row_leads}
+use Rattle.bench.proofs.StartedRows.{row_leads}
 use Rattle.bench.proofs.start.start_row.Goals as goal
 
 pub returns-else-follows : goal.returns-else-follows

@@ -1,7 +1,5 @@
 use Rattle.std.proofs.Common.{rules, ◌∙◌}
 use Rattle.geometry.proofs.Asked.{after_some}
-use Rattle.policy.specs.Three.{three}
-use Rattle.policy.proofs.Lawful.{lawful_of}
 use Rattle.geometry.specs.Refusal.{first_no}
 use Rattle.jobtext.specs.Written.{fit_question}
 use Rattle.jobtext.proofs.Rounds.{again, allowed, back}

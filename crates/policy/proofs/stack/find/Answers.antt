@@ -1,9 +1,8 @@
 -- The answer of the search is the position of the first word that is the tag.
-use Rattle.std.proofs.Common.{rules, ◌≡◌, ◌==◌, subst, sym, ◌∙◌, arith}
+use Rattle.std.proofs.Common.{rules, ◌==◌, subst, sym, ◌∙◌, arith}
 use Rattle.std.proofs.lemmas.Iterator.{YieldsList-from_slice}
 use Rattle.std.proofs.lemmas.Iterator.Search.{position_from_yields_List}
 use borrow.Author.Tests.{tests}
-use Rattle.std.specs.List.{position}
 use Rattle.policy.proofs.Find.{Says, says}
 use Rattle.policy.proofs.stack.find.Goals as goal
 

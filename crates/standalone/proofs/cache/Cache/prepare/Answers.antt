@@ -1,9 +1,8 @@
 use Rattle.std.proofs.Common.{◌≤◌, leb, ◌∷◌, length, ◌∙◌, arith}
-use Rattle.std.proofs.lemmas.Result.{err_from_is_err_and}
 use Rattle.std.proofs.lemmas.Bool.{le-leb}
-use Rattle.geometry.specs.Refusal.{ask, refusal_number}
+use Rattle.geometry.specs.Refusal.{ask}
 use Rattle.geometry.specs.Line.{line_questions}
-use Rattle.geometry.proofs.Asked.{after_none, after_some, passes}
+use Rattle.geometry.proofs.Asked.{after_none, passes}
 use Rattle.standalone.specs.Run.{need, access_questions}
 use Rattle.standalone.proofs.Questions.{all_allowed}
 use Rattle.standalone.proofs.Runs.{need_is}

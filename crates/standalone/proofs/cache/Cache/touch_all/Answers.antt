@@ -1,9 +1,6 @@
-use Rattle.std.proofs.Common.{◌+◌, ◌*◌, ◌^◌, drop, subst, rules}
+use Rattle.std.proofs.Common.{rules}
 use Rattle.std.proofs.lemmas.Nat.{pow_pos}
-use Rattle.std.proofs.lemmas.List.{take_all}
-use Rattle.policy.specs.Three.{policy_of}
 use Rattle.geometry.specs.Kind.{kind_number}
-use Rattle.standalone.specs.Run.{Tracks}
 use Rattle.standalone.proofs.Step.{going, misses_fit, hits_fit, compared_fit, tracks_more}
 use Rattle.standalone.proofs.cache.Cache.touch_all.Goals as goal
 
