@@ -1,5 +1,5 @@
 // What a simulated cache counts.
-use geometry::kind::AccessKind;
+use crate::event::Kind;
 
 // What one touch of a set did.
 #[derive(Clone, Copy, PartialEq, Eq, Debug)]
@@ -31,14 +31,14 @@ pub fn in_all(counts: &[u32; 3]) -> u64 {
     counts.iter().map(|count| u64::from(*count)).sum()
 }
 
-fn one_more(counts: &mut [u32; 3], kind: AccessKind) {
-    let index = kind.index();
+fn one_more(counts: &mut [u32; 3], kind: Kind) {
+    let index = kind.index() as usize;
     counts[index] = counts[index].saturating_add(1);
 }
 
 impl Tally {
     // Counts a touch for an access of a kind.
-    pub fn add(&mut self, kind: AccessKind, touch: Touch) {
+    pub fn add(&mut self, kind: Kind, touch: Touch) {
         match touch.effect {
             Effect::Hit => one_more(&mut self.hits, kind),
             Effect::Filled => one_more(&mut self.misses, kind),

@@ -1,7 +1,6 @@
 // Random traces: sequential runs, returns to recent addresses, blocks that meet in few sets, and jumps.
-use crate::event::Event;
+use crate::event::{Event, Kind};
 use crate::generator::Generator;
-use geometry::kind::AccessKind;
 use std::alloc::{AllocError, Global};
 
 // How far back a return reaches, in events.
@@ -10,11 +9,11 @@ const REACH: u32 = 48;
 // How many blocks meet in one set.
 const RIVALS: u32 = 24;
 
-fn some_kind(generator: &mut Generator) -> AccessKind {
+fn some_kind(generator: &mut Generator) -> Kind {
     match generator.below(8) {
-        0..=3 => AccessKind::Fetch,
-        4..=5 => AccessKind::Read,
-        _ => AccessKind::Store,
+        0..=3 => Kind::Fetch,
+        4..=5 => Kind::Read,
+        _ => Kind::Store,
     }
 }
 

@@ -40,7 +40,7 @@ pub fn accesses_of(heap: Global, events: &[Event]) -> Result<Vec<Access>, AllocE
     events
         .iter()
         .map(|event| Access {
-            kind: event.kind as u8,
+            kind: event.kind.index(),
             address: u64::from(event.address),
         })
         .collect(heap)
