@@ -27,8 +27,13 @@ fn split_once(bytes: &[u8], byte: u8) -> Option<(&[u8], &[u8])>
 }
 
 impl<'a> Case<'a> {
-    // The next case and the input after it, or none where no case is left.
-    pub fn next(heap: Global, input: &'a [u8]) -> Result<Option<(Case<'a>, &'a [u8])>, AllocError>
+    // The next case and the input after it, or none where no whole case is left. The letter is the last byte before the
+    // first bar; where none stands there, the case is of the sort of the one before.
+    pub fn next(
+        heap: Global,
+        before: Sort,
+        input: &'a [u8],
+    ) -> Result<Option<(Case<'a>, &'a [u8])>, AllocError>
         ensures { IfOk result (λ next. IfSome next (λ parts. length parts.1.now < length input.now)) }
     {
         let Some((sort, rest)) = split_once(input, b'|') else {
@@ -37,14 +42,17 @@ impl<'a> Case<'a> {
         let Some((answer, rest)) = split_once(rest, b'|') else {
             return Ok(None);
         };
-        let Some((text, rest)) = split_once(rest, b'\n') else {
+        let mut unescaped = Unescaped(rest);
+        let text = unescaped.by_ref().collect(heap)?;
+        let end = rest.len().saturating_sub(unescaped.0.len());
+        let Some([b'\n', rest @ ..]) = rest.get(end..) else {
             return Ok(None);
         };
         let sort = match sort {
+            [] => before,
             [.., b'J'] => Sort::Job,
             _ => Sort::Line,
         };
-        let text = Unescaped(text).collect(heap)?;
         Ok(Some((Case { sort, answer, text }, rest)))
     }
 }

@@ -39,8 +39,10 @@ fn judge_all(rt: &HostRuntime) -> anyhow::Result<Tally> {
     rt.stdin().read_to_end(&mut input)?;
     let mut tally = Tally::default();
     let mut rest = input.as_slice();
-    while let Some((case, later)) = Case::next(rt.alloc(), rest)? {
+    let mut sort = Sort::Line;
+    while let Some((case, later)) = Case::next(rt.alloc(), sort, rest)? {
         judge(rt, &case, &mut tally)?;
+        sort = case.sort;
         rest = later;
     }
     Ok(tally)
