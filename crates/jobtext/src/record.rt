@@ -1,6 +1,7 @@
 // What a line of a job says. Numbers and comments are lent by the text.
 use crate::numeral::{Decimal, Hex};
-use geometry::kind::AccessKind;
+// The kind of an access in a line is that of every access.
+pub use geometry::kind::AccessKind;
 use geometry::line::Line;
 
 // Where a line may stand: a table line and the opening only before the run, a line of the run only in it.
