@@ -1,6 +1,6 @@
 -- One call more of a list.
 use Rattle.std.proofs.Common.{◌≡◌, ℕ, suc, ◌+◌, ◌<◌, min, Bool, true, false, leb, List, [], ◌∷◌, ◌++◌, map, length, get_or, take, drop, set, Result, sym, refl, ap, ◌∙◌, arith}
-use Rattle.std.proofs.lemmas.List.{append_assoc, drop_all, drop_more, length-map, length-take-le, map_push, map-set, set_at, take_all, take_more}
+use Rattle.std.proofs.lemmas.List.{append_assoc, drop-drop, drop-set-lt, drop_all, drop_more, length-map, length-take-le, map_push, map-set, set_at, take_all, take_more}
 use Rattle.std.proofs.lemmas.Bool.{leb-true, leb-false}
 use Rattle.policy.specs.Suite.{Suite}
 use Rattle.bench.specs.Calls.{Do}
@@ -41,6 +41,10 @@ module _ (s : Suite) (calls : List Call) (k : ℕ) (d : Call) (low : k < length 
       ∙ sym (append_assoc ys (answer_of a ∷ []) (map answer_of (drop (k + 1) xs₀)))
       ∙ ap (λ n. (ys ++ (n ∷ [])) ++ map answer_of (drop (k + 1) xs₀)) (answered ∙ ap (λ z. bench_refusal s z (do_of (get_or calls k d))) e)
       ∙ ap (λ zs. zs ++ map answer_of (drop (k + 1) xs₀)) (sym (answers_more s (spoken k calls) (do_of (get_or calls k d)) start) ∙ sym (ap (λ cs. bench_answers s cs start) spoken_more))
+
+-- the answers beyond stay
+pub beyond_step : (xs xs₀ : List (Result Unit Refused)) (k : ℕ) (a : Result Unit Refused) → drop k xs ≡ drop k xs₀ → drop (k + 1) (set xs k a) ≡ drop (k + 1) xs₀
+beyond_step xs xs₀ k a e = drop-set-lt (k + 1) xs k a (omega arith) ∙ sym (drop-drop 1 k xs) ∙ ap (drop 1) e ∙ drop-drop 1 k xs₀
 
 -- as many calls as both lists have
 pub both_lists : (calls : List Call) (xs : List (Result Unit Refused)) (k : ℕ) → k ≡ min (length calls) (length xs) → take k calls ≡ take (length xs) calls

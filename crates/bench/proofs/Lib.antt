@@ -5,6 +5,7 @@ pub mod Restrict
 pub mod RowWords
 pub mod SetRows
 pub mod Hits
+pub mod OwnMisses
 pub mod VisitDone
 pub mod InWindows
 pub mod LineKept

@@ -3,7 +3,7 @@ use Rattle.std.specs.Prelude.{◌≡◌, ℕ, ◌+◌, ◌*◌, Bool, true, cond
 use Rattle.bench.specs.Rows.{Stepped}
 use Rattle.bench.specs.Mixed.{Leads, Owned}
 use Rattle.bench.specs.Direct.{direct_after, direct_compared, direct_hit}
-use Rattle.bench.specs.Entries.{all_counted, capped}
+use Rattle.bench.specs.Entries.{Entry, all_counted, capped, kin_of, misses_of}
 use Rattle.bench.specs.Group.{sweep_at}
 use Rattle.bench.specs.Words.{Kin, lines_words, spread, wide, with_rows}
 
@@ -43,3 +43,10 @@ pub record Done (v : Visited) (kind : ℕ) (ms ms' : List (List ℕ)) (words' : 
   pub words : words' ≡ v.words
   pub misses : ms' ≡ all_counted kind v.hits ms
   pub compared : comparisons ≡ capped v.comparisons
+
+-- the same of lines that keep their own misses
+pub record LevelVisited (f : Owned → ℕ → Leads → Stepped) (s i t kind : ℕ) (lines : List Entry) (words : List ℕ) (lines' : List Entry) (words' : List ℕ) (comparisons : ℕ) : Type 0 where
+  pub rows : words' ≡ (visit f s i t (kin_of lines) words).words
+  pub misses : misses_of lines' ≡ all_counted kind (visit f s i t (kin_of lines) words).hits (misses_of lines)
+  pub kin : kin_of lines' ≡ kin_of lines
+  pub compared : comparisons ≡ capped (visit f s i t (kin_of lines) words).comparisons

@@ -4,6 +4,7 @@ ghost use Rattle.geometry.specs.Kind.{kind_number};
 ghost use Rattle.bench.specs.Called.{Called};
 ghost use Rattle.bench.specs.Calls.{access as an-access, flush, open_table};
 ghost use Rattle.bench.specs.Held.{bench_of, lines_of};
+ghost use Rattle.bench.specs.Refused.{LinesFromOne};
 ghost use Rattle.bench.specs.Spans.{configs};
 ghost use Rattle.bench.specs.Spoken.{answer_of, reply};
 ghost use Rattle.bench.specs.State.{restarted, touch_state};
@@ -53,7 +54,8 @@ fn touch<S: Suite>(policies: &S, held: &mut Held, workspace: &mut [u32], access:
 impl<S: Suite> Bench<S> {
     // Opens a table: all counts and frames are 0, all rows are started, and the windows stay.
     pub fn open(&mut self, lines: &[Line], workspace: &mut [u32]) -> Result<(), Refused>
-        ensures { Called S.suite (open_table lines.now) (bench_of self.old.held workspace.old) (bench_of self.new.held workspace.new) (answer_of result) }
+        ensures called { Called S.suite (open_table lines.now) (bench_of self.old.held workspace.old) (bench_of self.new.held workspace.new) (answer_of result) }
+        ensures from_one { LinesFromOne result }
     {
         let table = Table::read(&self.policies, lines)?;
         if workspace.len() < table.need {

@@ -1,5 +1,5 @@
 // What the nearest wider leader did in a sweep of one set.
-ghost use Rattle.std.specs.Prelude.{◌≡◌};
+ghost use Rattle.std.specs.Prelude.{◌≡◌, false, []};
 ghost use Rattle.bench.specs.Lead.{leads_seen};
 ghost use Rattle.bench.specs.Mixed.{no_leads};
 
@@ -20,6 +20,19 @@ pub(crate) struct Lead {
 pub(crate) struct Leads {
     pub(crate) first: Option<Lead>,
     pub(crate) second: Option<Lead>,
+}
+
+impl Lead {
+    // A leader that has told nothing yet.
+    pub(crate) fn new() -> Lead
+        ensures answer { result.answer ≡ (false, 0) }
+        ensures before { result.before.items ≡ [] }
+    {
+        Lead {
+            answer: (false, 0),
+            before: ArrayVec::new(),
+        }
+    }
 }
 
 impl Leads {

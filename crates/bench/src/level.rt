@@ -2,8 +2,9 @@
 ghost use Rattle.std.specs.Prelude.{◌≡◌, ◌≤◌, length};
 ghost use Rattle.geometry.specs.Kind.{kind_number};
 ghost use Rattle.bench.specs.Direct.{direct_hit};
+ghost use Rattle.bench.specs.Entries.{entries};
 ghost use Rattle.bench.specs.OpenLines.{kins_of};
-ghost use Rattle.bench.specs.Level.{Done, level_words, visit};
+ghost use Rattle.bench.specs.Level.{Done, LevelVisited, level_words, visit};
 ghost use Rattle.bench.specs.Mixed.{own_step};
 
 use crate::direct::visit_direct;
@@ -32,6 +33,7 @@ impl<S: Suite> Visit<'_, S> {
         requires room { level_words self.now.place.sets (kins_of lines.now) ≤ length words.old }
         ensures hit { result.0 ≡ direct_hit words.old self.now.place.set self.now.place.tag }
         ensures visited { Done (visit (own_step S.suite) self.now.place.sets self.now.place.set self.now.place.tag (kins_of lines.now) words.old) (kind_number self.now.place.kind) misses.old misses.new words.new result.1 }
+        ensures level { LevelVisited (own_step S.suite) self.now.place.sets self.now.place.set self.now.place.tag (kind_number self.now.place.kind) (entries (kins_of lines.now) misses.old) words.old (entries (kins_of lines.now) misses.new) words.new result.1 }
     {
         let place = self.place;
         let (hit, seen) = visit_direct(words, place.set, place.tag);

@@ -1,9 +1,9 @@
 // The lines of a table, and what is asked of them.
-ghost use Rattle.std.specs.Prelude.{◌≡◌, ◌≤◌, [], ◌∷◌, ◌++◌, map, length, IfOk, None};
+ghost use Rattle.std.specs.Prelude.{◌≡◌, ◌≤◌, [], ◌∷◌, ◌++◌, map, length, IfOk, None, OnOk};
 ghost use Rattle.geometry.specs.Line.{GeometryOf, line_questions};
 ghost use Rattle.geometry.specs.Refusal.{Answers, ask};
 ghost use Rattle.bench.specs.Opened.{in_order, lines_refusal, table_refusal};
-ghost use Rattle.bench.specs.Refused.{TableAnswer};
+ghost use Rattle.bench.specs.Refused.{LinesFromOne, TableAnswer};
 ghost use Rattle.bench.specs.Spans.{configs};
 ghost use Rattle.bench.specs.Table.{config_of};
 
@@ -39,16 +39,19 @@ fn check_line<S: Suite>(policies: &S, last: Option<Line>, line: &Line) -> Result
     Ok(geometry)
 }
 
-// Reads lines one after the other, until one is refused; they do not know yet where their levels end.
+// Reads lines one after the other into a list, until one is refused; they do not know yet where their levels end. The
+// list is lent, since a list that is handed on by value is copied whole.
 fn read_lines<S: Suite>(
     policies: &S,
     lines: &[Line],
-) -> Result<ArrayVec<OpenLine, MOST_LINES>, Refused>
-    requires { length lines.now ≤ 64 }
+    read: &mut ArrayVec<OpenLine, MOST_LINES>,
+) -> Result<(), Refused>
+    requires few { length lines.now ≤ 64 }
+    requires none { read.old.items ≡ [] }
     ensures passes { TableAnswer (lines_refusal S.suite.three 1 None lines.now) result }
-    ensures configs { IfOk result (λ es. configs es.items ≡ map (config_of S.suite.three) lines.now) }
+    ensures from_one { LinesFromOne result }
+    ensures configs { OnOk result (configs read.new.items ≡ map (config_of S.suite.three) lines.now) }
 {
-    let mut read = ArrayVec::new();
     let mut last = None;
     for line in lines {
         match check_line(policies, last, line) {
@@ -62,7 +65,7 @@ fn read_lines<S: Suite>(
         }
         last = Some(*line);
     }
-    Ok(read)
+    Ok(())
 }
 
 impl Table {
@@ -79,20 +82,23 @@ impl Table {
     // The table of these lines, or why it is refused.
     pub(crate) fn read<S: Suite>(policies: &S, lines: &[Line]) -> Result<Table, Refused>
         ensures passes { TableAnswer (table_refusal S.suite.three lines.now) result }
+        ensures from_one { LinesFromOne result }
         ensures configs { IfOk result (λ t. configs t.lines.items ≡ map (config_of S.suite.three) lines.now) }
     {
         if !(1..=MOST_LINES).contains(&lines.len()) {
             return Err(Refusal::TableSize.into());
         }
-        let mut lines = read_lines(policies, lines)?;
-        let need = link(&mut lines);
-        Ok(Table { lines, need })
+        let mut read = ArrayVec::new();
+        read_lines(policies, lines, &mut read)?;
+        let need = link(&mut read);
+        Ok(Table { lines: read, need })
     }
 }
 
 // Whether a bench could open a table of these lines in a workspace that is long enough, or why it is refused.
 pub fn check_table<S: Suite>(policies: &S, lines: &[Line]) -> Result<(), Refused>
-    ensures { TableAnswer (table_refusal S.suite.three lines.now) result }
+    ensures answer { TableAnswer (table_refusal S.suite.three lines.now) result }
+    ensures from_one { LinesFromOne result }
 {
     let _table = Table::read(policies, lines)?;
     Ok(())

@@ -1,7 +1,9 @@
 // A list of calls, one after the other.
-ghost use Rattle.std.specs.Prelude.{◌≡◌, ◌++◌, map, length, drop};
+ghost use Rattle.std.specs.Prelude.{◌≡◌, ◌++◌, map, length, min, drop};
+ghost use Rattle.std.specs.List.{AllWithin};
 ghost use Rattle.bench.specs.Called.{Called};
 ghost use Rattle.bench.specs.Held.{bench_of};
+ghost use Rattle.bench.specs.Refused.{LinesFromOne};
 ghost use Rattle.bench.specs.Spoken.{answer_of, do_of, spoken};
 ghost use Rattle.bench.specs.State.{bench_answers, bench_run, new_bench};
 ghost use Rattle.bench.specs.Theorem.{OnePass};
@@ -14,7 +16,8 @@ use policy::suite::Suite;
 impl<S: Suite> Bench<S> {
     // Makes one call.
     pub fn call(&mut self, call: &Call, workspace: &mut [u32]) -> Result<(), Refused>
-        ensures { Called S.suite (do_of call.now) (bench_of self.old.held workspace.old) (bench_of self.new.held workspace.new) (answer_of result) }
+        ensures called { Called S.suite (do_of call.now) (bench_of self.old.held workspace.old) (bench_of self.new.held workspace.new) (answer_of result) }
+        ensures from_one { LinesFromOne result }
     {
         match call {
             Call::Flush => self.flush(workspace)?,
@@ -38,6 +41,8 @@ pub fn replay<S: Suite>(
     answers: &mut [Result<(), Refused>],
 ) -> Bench<S>
     ensures answers { map answer_of answers.new ≡ bench_answers S.suite (spoken (length answers.old) calls.now) (new_bench workspace.old) ++ map answer_of (drop (length calls.now) answers.old) }
+    ensures beyond { drop (length calls.now) answers.new ≡ drop (length calls.now) answers.old }
+    ensures from_one { AllWithin LinesFromOne answers.new 0 (min (length calls.now) (length answers.old)) }
     ensures bench { bench_of result.held workspace.new ≡ bench_run S.suite (spoken (length answers.old) calls.now) (new_bench workspace.old) }
     ensures theorem { OnePass S.suite (spoken (length answers.old) calls.now) workspace.old }
 {

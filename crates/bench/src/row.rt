@@ -6,11 +6,11 @@ ghost use Rattle.bench.specs.Rows.{leave, step, step_alone, touch_leader};
 ghost use Rattle.bench.specs.Words.{slot_of, words_of};
 
 use crate::lead::Lead;
-use arrayvec::ArrayVec;
 use policy::suite::Suite;
 use policy::three::Member;
 
 // Touches a row that leads, and tells narrower rows what it did.
+#[inline(always)]
 fn touch_leader<S: Suite>(
     policies: &S,
     member: Member,
@@ -26,15 +26,23 @@ fn touch_leader<S: Suite>(
     ensures lead { lead_seen lead.new ≡ (touch_leader (meaning S.suite member) (slot_of words.old) tag).lead }
 {
     let row = &mut words[1..];
-    let Ok(before) = ArrayVec::try_from(&*row) else {
+    if lead.is_none() {
+        *lead = Some(Lead::new());
+    }
+    let Some(leader) = lead else {
+        unreachable!();
+    };
+    leader.before.clear();
+    let Ok(()) = leader.before.try_extend_from_slice(row) else {
         unreachable!();
     };
     let answer = policies.touch(member, row, tag);
-    *lead = Some(Lead { answer, before });
+    leader.answer = answer;
     answer
 }
 
 // Truncates a follower from its leader's row as it was before, touches it, and lets it lead.
+#[inline(always)]
 fn leave_leader<S: Suite>(
     policies: &S,
     member: Member,
@@ -50,13 +58,13 @@ fn leave_leader<S: Suite>(
     let row = &mut words[1..];
     policies.truncate(member, &leader.before, row);
     let _ = policies.touch(member, row, tag);
-    *leader = Lead {
-        answer: (false, 0),
-        before: ArrayVec::new(),
-    };
+    leader.answer = (false, 0);
+    leader.before.clear();
 }
 
 // Sweeps one row of a nesting policy, after its wider ones: whether it hit, and the comparisons that are reported.
+// Inlined where the member is known, so that each policy has code of its own.
+#[inline(always)]
 pub(crate) fn step_row<S: Suite>(
     policies: &S,
     member: Member,

@@ -2,7 +2,8 @@
 ghost use Rattle.std.specs.Prelude.{◌≡◌, ◌≤◌, length};
 ghost use Rattle.geometry.specs.Kind.{kind_number};
 ghost use Rattle.bench.specs.OpenLines.{kins_of};
-ghost use Rattle.bench.specs.Group.{SetSwept};
+ghost use Rattle.bench.specs.Entries.{entries};
+ghost use Rattle.bench.specs.Group.{RowsSwept, SetSwept};
 ghost use Rattle.bench.specs.Lead.{leads_seen};
 ghost use Rattle.bench.specs.Mixed.{no_leads, own_step};
 ghost use Rattle.bench.specs.Words.{lines_words, wide};
@@ -26,7 +27,8 @@ impl<S: Suite> Visit<'_, S> {
         requires long { length misses.old ≡ length lines.now }
         requires room { lines_words self.now.place.sets (wide (kins_of lines.now)) ≤ length words.old }
         requires fresh { leads_seen leads.old ≡ no_leads }
-        ensures { SetSwept (own_step S.suite) self.now.place.sets self.now.place.set self.now.place.tag (kind_number self.now.place.kind) (kins_of lines.now) misses.old words.old misses.new words.new result (leads_seen leads.new) }
+        ensures swept { SetSwept (own_step S.suite) self.now.place.sets self.now.place.set self.now.place.tag (kind_number self.now.place.kind) (kins_of lines.now) misses.old words.old misses.new words.new result (leads_seen leads.new) }
+        ensures rows { RowsSwept (own_step S.suite) self.now.place.sets self.now.place.set self.now.place.tag (kind_number self.now.place.kind) (entries (kins_of lines.now) misses.old) words.old (entries (kins_of lines.now) misses.new) words.new result (leads_seen leads.new) }
     {
         let Some((line, lines)) = lines.split_first() else {
             return 0;

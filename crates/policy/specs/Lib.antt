@@ -4,8 +4,8 @@ pub mod Nesting
 pub mod Stack
 pub mod Plru
 pub mod Three
-pub mod Standard
 pub mod Suite
+pub mod Standard
 pub mod ListPolicy
 pub mod SearchLemmas
 pub mod Shift

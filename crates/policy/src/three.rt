@@ -55,6 +55,8 @@ impl<A: Nesting, B: Nesting, C: Policy> Suite for Policies<A, B, C> {
         }
     }
 
+    // Inlined, since a sweep knows the member where it touches a row.
+    #[inline(always)]
     fn touch(&self, member: Member, row: &mut [u32], tag: u32) -> (bool, usize) {
         match member {
             Member::First => self.first.touch(row, tag),

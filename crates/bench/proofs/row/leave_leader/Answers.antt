@@ -12,5 +12,5 @@ returns-clause-words g c =
     let wide = c.args.leader.now.before.items in
     let n : length (take (length (set ws 0 0) - 1) (drop 1 (set ws 0 0))) ≡ length ws - 2 + 1 = simp (length-take, length-drop, length-set) (omega arith) in
     let same : c.deref.result.now ≡ wide = search rules in
-    row_left ws c.touch.new.row (omega arith)
-    ∙ ap (λ r. 0 ∷ r) (c.touch.ensures.row ∙ ap (λ r. (m.touch r c.args.tag).row) (c.truncate.ensures ∙ ap (e.truncate _) same ∙ ap (λ k. e.truncate k wide) n))
+    row_left ws c.touch-leader.new.row (omega arith)
+    ∙ ap (λ r. 0 ∷ r) (c.touch-leader.ensures.row ∙ ap (λ r. (m.touch r c.args.tag).row) (c.truncate.ensures ∙ ap (e.truncate _) same ∙ ap (λ k. e.truncate k wide) n))

@@ -13,8 +13,8 @@ use Rattle.bench.specs.State.{restarted}
 use Rattle.bench.specs.Table.{config_of, families, families_words}
 use Rattle.bench.proofs.bench.Bench.open.Goals as goal
 
-pub returns : goal.returns
-returns g c =
+pub returns-clause-called : goal.returns-clause-called
+returns-clause-called g c =
     let s = g.S.Suite.suite in
     let L = g.met.S.Suite.lawful in
     let h = c.args.self.now.held in
