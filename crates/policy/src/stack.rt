@@ -3,8 +3,6 @@ ghost use Rattle.std.specs.Prelude.{◌≡◌, ◌^◌, ◌<◌, true, false, �
 ghost use Rattle.policy.specs.Search.{member, place};
 ghost use Rattle.policy.specs.Stack.{OnLayout, fifo, lru, residents_of, touched_row, truncate_of, ways_of};
 
-use std::mem;
-
 // The ways of a row: the words after the head word, as far as that can count them.
 fn ways_of(row: &[u32]) -> usize
     ensures { result ≡ ways_of (drop 1 row.now) }
@@ -50,10 +48,9 @@ pub(crate) fn find(words: &[u32], tag: u32) -> (bool, usize)
 fn push_front(words: &mut [u32], tag: u32)
     ensures { words.new ≡ take (length words.old) (tag ∷ words.old) }
 {
-    // Not `rotate_right`: rows are short, and a call that moves memory costs more than the loop.
-    let mut carried = tag;
-    for word in words.iter_mut() {
-        carried = mem::replace(word, carried);
+    if !words.is_empty() {
+        words.rotate_right(1);
+        words[0] = tag;
     }
 }
 
